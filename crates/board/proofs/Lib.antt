@@ -1,0 +1,5 @@
+pub mod Holding
+pub mod Same
+pub mod Traps
+pub mod Lone
+pub mod Reading
