@@ -17,3 +17,9 @@ next-toward j k (inl (r, inl c)) = (West, (r, c))
 next-toward j k (inl (r, inr c)) = (East, (r, sym c))
 next-toward j k (inr (c, inl r)) = (South, (r, c))
 next-toward j k (inr (c, inr r)) = (North, (sym r, c))
+
+pub next-sym : (s k : ℕ) → Next s k → Next k s
+next-sym s k (inl (r, inl c)) = inl (sym r, inr c)
+next-sym s k (inl (r, inr c)) = inl (sym r, inl c)
+next-sym s k (inr (c, inl r)) = inr (sym c, inr r)
+next-sym s k (inr (c, inr r)) = inr (sym c, inl r)

@@ -1,0 +1,6 @@
+use Rattle.std.proofs.shelf.Ways.{decides-and}
+use Rattle.rules.proofs.Stepping.{told}
+use Rattle.rules.proofs.half_turn.HalfTurn.is_stuck.Needs as need
+
+pub returns : need.returns
+returns c = decides-and (c .eq .result) (c .is-frozen .result) (told (c .eq .result) (c .eq .ensures)) (c .is-frozen .ensures)

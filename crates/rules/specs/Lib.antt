@@ -1,0 +1,11 @@
+pub mod Room
+pub mod Codes
+pub mod Steps
+pub mod Removals
+pub mod Asked
+pub mod Actions
+pub mod HalfTurns
+pub mod Checks
+pub mod Answers
+pub mod Played
+pub mod Theorems
