@@ -3,3 +3,4 @@ pub mod Same
 pub mod Traps
 pub mod Lone
 pub mod Reading
+pub mod Told

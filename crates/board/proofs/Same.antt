@@ -10,7 +10,7 @@ use Rattle.bits.proofs.Same.{on-lt, plane-same}
 use Rattle.board.specs.declared.pieces.Side.the-variants.{Gold}
 use Rattle.board.specs.declared.board.Board.{Board}
 use Rattle.board.specs.Planes.{Fitting}
-use Rattle.board.specs.Cells.{cell}
+use Rattle.board.specs.Cells.{cell, SameSquares}
 use Rattle.board.specs.Counts.{of-side, strength-in}
 use Rattle.board.proofs.Holding.{strength-law, gold-law}
 
@@ -25,7 +25,7 @@ planes-same b d g o t f = λ i.
       fitting = isProp→PathP (λ j. Fitting (g j) (o j) (t j) (f j)) (λ j x y k s. (le-prop (x s .0) (y s .0) k, le-prop (x s .1) (y s .1) k)) (b .fitting) (d .fitting) i;
     }
 
-pub board-same : (b d : Board) → ((s : ℕ) → s < 64 → cell b s ≡ cell d s) → b ≡ d
+pub board-same : (b d : Board) → SameSquares b d → b ≡ d
 board-same b d e =
     planes-same b d (plane-same (b .gold) (d .gold) (λ s h. gold-law b s ∙ (ap (λ c. of-side c Gold) (e s h) ∙ sym (gold-law d s))))
     (plane-same (b .ones) (d .ones) (λ s h. let k = digits s h in omega (arith, k, on-lt (b .ones) s, on-lt (b .twos) s, on-lt (b .fours) s, on-lt (d .ones) s, on-lt (d .twos) s, on-lt (d .fours) s)))

@@ -1,7 +1,7 @@
 -- What stands on each square of a board.
 use mathlib.Core.Path.{_≡_}
 use mathlib.Core.Logic.{_≢_}
-use Prim.Native.Nat.{ℕ, zero, suc}
+use Prim.Native.Nat.{ℕ, zero, suc, _<_}
 use Rattle.std.specs.declared.option.Option.{Option}
 use Rattle.std.specs.declared.option.Option.the-variants.{Some, None}
 use Rattle.bits.specs.Planes.{on}
@@ -32,6 +32,10 @@ decode g (suc a) (suc b) c = holding g Elephant
 -- what stands on the square s
 abbrev pub cell : Board → ℕ → Option Piece
 cell b s = decode (on (b .gold) s) (on (b .fours) s) (on (b .twos) s) (on (b .ones) s)
+
+-- the two boards have the same on each of the 64 squares
+abbrev pub SameSquares : Board → Board → Type 0
+SameSquares b d = (s : ℕ) → s < 64 → cell b s ≡ cell d s
 
 -- the square s has c, and every other square has what it had
 pub record Changed (old new : Board) (s : ℕ) (c : Option Piece) : Type 0 where

@@ -3,6 +3,7 @@ ghost use mathlib.Core.Path.{_≡_};
 ghost use Rattle.std.specs.Orderings.{Decides};
 ghost use Rattle.std.specs.Results.{Cases};
 ghost use Rattle.board.specs.Pieces.{side-number};
+ghost use Rattle.board.specs.Cells.{SameSquares};
 ghost use Rattle.board.specs.Counts.{Lawful};
 ghost use Rattle.board.specs.Refusals.{refusal-number, NoneHits, FirstHit};
 ghost use Rattle.board.specs.Reading.{Shows, position-checks};
@@ -44,9 +45,10 @@ impl Position {
 }
 
 pub impl PartialEq<Position> for Position as PositionEq {
-    ghost equals = { λ p q r. Decides r (p ≡ q) };
+    // Positions are equal exactly if they agree in the 64 squares and the side.
+    ghost equals = { λ p q r. Decides r (p ≡ q) × Decides r (SameSquares (p .board) (q .board) × (p .side ≡ q .side)) };
 
     fn eq(&self, other: &Position) -> bool {
-        self.side == other.side && self.board == other.board
+        (self.side == other.side) & (self.board == other.board)
     }
 }

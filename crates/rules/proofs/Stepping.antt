@@ -1,11 +1,10 @@
 -- A step from what the code finds on the board.
 use mathlib.Core.Path.{_≡_, refl, sym, subst, ap, _∙_}
-use mathlib.Core.Bool.{Bool, true, false, cond}
+use mathlib.Core.Bool.{true, false}
 use Prim.Native.Nat.{ℕ, _<_}
 use Rattle.std.specs.declared.option.Option.{Option}
 use Rattle.std.specs.declared.option.Option.the-variants.{Some, None}
 use Rattle.std.specs.Options.{isSome}
-use Rattle.std.specs.Orderings.{Decides}
 use Rattle.std.proofs.shelf.Tests.{true≢false, false≢true}
 use Rattle.bits.specs.declared.direction.Direction.{Direction}
 use Rattle.bits.specs.Squares.{Toward}
@@ -41,8 +40,3 @@ is-some (Some p) e = (p, refl)
 pub is-none : (o : Option Piece) → isSome o ≡ false → o ≡ None
 is-none None e = refl
 is-none (Some p) e = absurd (true≢false e)
-
--- what `==` tells decides
-pub told : {A : Type 0} (r : Bool) → cond r A (A → ⊥) → Decides r A
-told true h = (λ e. h, λ a. refl)
-told false h = (λ e. absurd (false≢true e), λ a. absurd (h a))

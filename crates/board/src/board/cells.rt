@@ -6,7 +6,7 @@ ghost use Prim.Native.Nat.{ℕ, _+_, _*_, _≤_};
 ghost use Rattle.std.specs.declared.option.Option.the-variants.{None};
 ghost use Rattle.std.specs.Orderings.{Decides};
 ghost use Rattle.bits.specs.Planes.{on};
-ghost use Rattle.board.specs.Cells.{cell, decode, Changed};
+ghost use Rattle.board.specs.Cells.{cell, decode, SameSquares, Changed};
 use super::Board;
 use crate::Kind;
 use crate::Piece;
@@ -125,7 +125,8 @@ impl Board {
 }
 
 pub impl PartialEq<Board> for Board as BoardEq {
-    ghost equals = { λ a b r. Decides r (a ≡ b) };
+    // Boards are equal exactly if they have the same on every square.
+    ghost equals = { λ a b r. Decides r (a ≡ b) × Decides r (SameSquares a b) };
 
     fn eq(&self, other: &Board) -> bool {
         (self.gold == other.gold)

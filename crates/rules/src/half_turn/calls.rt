@@ -8,6 +8,7 @@ use crate::Pending;
 use board::Board;
 use board::Position;
 use board::Refusal;
+use board::Side;
 
 impl HalfTurn {
     /// The turn's start.
@@ -27,6 +28,20 @@ impl HalfTurn {
         ensures { λ r. ⌜ r ≡ self .board ⌝ }
     {
         self.board
+    }
+
+    /// The side whose turn it is.
+    pub fn side(self) -> Side
+        ensures { λ r. ⌜ r ≡ self .side ⌝ }
+    {
+        self.side
+    }
+
+    /// What the last step left open.
+    pub fn pending(self) -> Pending
+        ensures { λ r. ⌜ r ≡ self .pending ⌝ }
+    {
+        self.pending
     }
 
     /// How many steps are made.

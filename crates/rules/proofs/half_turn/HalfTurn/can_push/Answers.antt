@@ -5,7 +5,7 @@ use Rattle.board.specs.declared.pieces.Side.{Side}
 use Rattle.board.specs.declared.pieces.Piece.{Piece}
 use Rattle.board.specs.Pieces.{Stronger}
 use Rattle.rules.proofs.Pieces.{one-piece}
-use Rattle.rules.proofs.Stepping.{told}
+use Rattle.board.proofs.Told.{told}
 use Rattle.rules.proofs.half_turn.HalfTurn.can_push.Needs as need
 
 pub returns-in-Some : need.returns-in-Some

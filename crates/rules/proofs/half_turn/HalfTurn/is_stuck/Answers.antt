@@ -1,5 +1,5 @@
 use Rattle.std.proofs.shelf.Ways.{decides-and}
-use Rattle.rules.proofs.Stepping.{told}
+use Rattle.board.proofs.Told.{told}
 use Rattle.rules.proofs.half_turn.HalfTurn.is_stuck.Needs as need
 
 pub returns : need.returns

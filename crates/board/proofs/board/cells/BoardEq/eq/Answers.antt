@@ -1,10 +1,13 @@
-use mathlib.Core.Path.{_≡_, ap}
+use mathlib.Core.Path.{_≡_, refl, ap}
 use mathlib.Core.Bool.{_&&_}
+use Prim.Native.Nat.{ℕ}
+use Rattle.std.specs.Orderings.{Decides}
 use Rattle.std.proofs.shelf.Tests.{and-parts, and-from}
-use Rattle.bits.specs.declared.plane.Plane.{Plane}
+use Rattle.std.proofs.shelf.Ways.{decides-like}
 use Rattle.bits.proofs.Same.{plane-by-word}
 use Rattle.board.specs.declared.board.Board.{Board}
-use Rattle.board.proofs.Same.{planes-same}
+use Rattle.board.specs.Cells.{cell}
+use Rattle.board.proofs.Same.{planes-same, board-same}
 use Rattle.board.proofs.board.cells.BoardEq.eq.Needs as need
 
 pub returns : need.returns
@@ -14,7 +17,8 @@ returns c =
     let g = c .eq .result in
     let o = c .eq-2 .result in
     let t = c .eq-3 .result in
-    let f = c .eq-4 .result in (
+    let f = c .eq-4 .result in
+    let equal : Decides (((g && o) && t) && f) (a ≡ b) = (
       (λ e.
           let three = and-parts ((g && o) && t) f e in
           let two = and-parts (g && o) t (three .0) in
@@ -27,4 +31,5 @@ returns c =
           (and-from g o (c .eq .ensures .1 (ap (λ (x : Board). x .gold .word) e)) (c .eq-2 .ensures .1 (ap (λ (x : Board). x .ones .word) e)))
           (c .eq-3 .ensures .1 (ap (λ (x : Board). x .twos .word) e)))
           (c .eq-4 .ensures .1 (ap (λ (x : Board). x .fours .word) e))),
-    )
+    ) in
+    (equal, decides-like (((g && o) && t) && f) (λ e s h. ap (λ (x : Board). cell x s) e) (board-same a b) equal)
