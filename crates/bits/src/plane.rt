@@ -1,7 +1,7 @@
 // A plane is a set of squares: square number k is in it where its word has a one at place k.
 ghost use Prim.Native.Nat.{_<_, _^_};
 
-mod marks;
+mod members;
 mod shifts;
 mod squares;
 

@@ -7,7 +7,7 @@ use board::Side;
 
 mod calls;
 mod checks;
-mod judged;
+mod pushes_and_pulls;
 
 #[derive(Clone, Copy)]
 pub struct HalfTurn {
