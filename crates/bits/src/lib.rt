@@ -1,4 +1,6 @@
 // Squares, directions and planes of 64 squares.
+#![tactic(auto)]
+
 mod direction;
 mod plane;
 mod square;

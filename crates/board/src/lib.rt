@@ -1,4 +1,6 @@
 // Pieces and their letters, boards, and the refusals of the library.
+#![tactic(auto)]
+
 mod board;
 mod pieces;
 mod refusal;

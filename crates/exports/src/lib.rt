@@ -1,4 +1,6 @@
 // What the benchmarks in bench/ call, with C's calling convention.
+#![tactic(auto)]
+
 use lines::Line;
 use std::alloc::Global;
 use store::{Store, Table, Tree, nodes, slots};

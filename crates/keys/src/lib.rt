@@ -1,4 +1,6 @@
 // Keys, with an equality of their own, which may be coarser than sameness.
+#![tactic(auto)]
+
 ghost use Rattle.std.specs.Prelude.{◌≡◌, ℕ, Bool, true};
 ghost use Rattle.std.specs.declared.cmp.Ordering.TheVariants.{Less, Equal};
 ghost use Rattle.std.specs.declared.cmp.Ordering.{Ordering};

@@ -1,4 +1,6 @@
 // Lines of text as keys of a store.
+#![tactic(auto)]
+
 mod adding;
 mod line;
 

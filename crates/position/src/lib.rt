@@ -1,4 +1,6 @@
 // Positions, and positions as keys of stores.
+#![tactic(auto)]
+
 use board::{Board, Side};
 
 mod key;

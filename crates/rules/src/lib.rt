@@ -1,4 +1,6 @@
 // The rules of a turn: steps, half-made turns, and what a list of step codes plays.
+#![tactic(auto)]
+
 mod codes;
 mod half_turn;
 mod laws;

@@ -1,4 +1,6 @@
 // Stores that count keys: one meaning, and two makes of it, a hash table and an ordered tree.
+#![tactic(auto)]
+
 mod memory;
 mod store;
 mod table;

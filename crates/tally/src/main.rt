@@ -1,4 +1,6 @@
 // Counts the lines of standard input by their first 64 bytes, in a store of the make and the capacity that are named.
+#![tactic(auto)]
+
 use lines::{Line, tally};
 use std::env;
 use std::io::Read;

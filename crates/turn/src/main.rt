@@ -1,4 +1,6 @@
 // Plays the tasks of standard input, a line each: 64 letters, a side number and codes.
+#![tactic(auto)]
+
 use std::fmt::Write;
 use std::io;
 use std::io::Read;
