@@ -1,7 +1,5 @@
-use Rattle.std.proofs.Common.{◌≡◌, ℕ, ◌<◌, ◌≤◌, true, false, ◌⊎◌, List, length, get_or, Option, sym, subst, inl, inr, arith}
-use Rattle.std.proofs.lemmas.Bool.{not-true}
+use Rattle.std.proofs.Common.{◌≡◌, ℕ, ◌<◌, List, length, get_or, Option, subst, arith}
 use Rattle.std.proofs.lemmas.Bool.Decides.{not_from_Decides}
-use Rattle.bits.specs.Planes.{on}
 use Rattle.bits.proofs.Same.{some_square}
 use Rattle.board.specs.declared.pieces.Side.{Side}
 use Rattle.board.specs.declared.pieces.Side.TheVariants.{Gold, Silver}
