@@ -7,10 +7,9 @@ use Rattle.board.specs.declared.board.Board.{Board}
 use Rattle.board.specs.declared.refusal.Refusal.{Refusal}
 use Rattle.board.specs.Counts.{Lawful}
 use Rattle.board.specs.Refusals.{refusal_number, FirstHit}
-use Rattle.rules.specs.declared.playing.Played.{Played}
 use Rattle.rules.specs.declared.playing.Played.TheVariants.{Start, Whole, Half, Refused}
 use Rattle.rules.specs.Actions.{Turn}
-use Rattle.rules.specs.HalfTurns.{Half as HalfMade, opened, half_of, start, Takes, Runs}
+use Rattle.rules.specs.HalfTurns.{opened, half_of, start, Takes, Runs}
 use Rattle.rules.specs.HalfTurns.Runs.{stay}
 use Rattle.rules.specs.Checks.{read_checks}
 use Rattle.rules.proofs.Taking.{closed}

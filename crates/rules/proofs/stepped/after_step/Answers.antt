@@ -1,4 +1,4 @@
-use Rattle.std.proofs.Common.{◌≡◌, ◌≢◌, Some, None, Option, sym, ap, ◌∙◌}
+use Rattle.std.proofs.Common.{◌≡◌, ◌≢◌, Some, None, sym, ap, ◌∙◌}
 use Rattle.board.specs.Cells.{cell}
 use Rattle.rules.specs.Codes.{square, Goes}
 use Rattle.rules.proofs.Going.{goes_one, goes_away}

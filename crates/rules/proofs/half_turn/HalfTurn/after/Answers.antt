@@ -1,4 +1,4 @@
-use Rattle.std.proofs.Common.{◌≡◌, ◌≢◌, sym, refl, ◌∙◌}
+use Rattle.std.proofs.Common.{◌≢◌, sym, refl, ◌∙◌}
 use Rattle.rules.proofs.Going.{goes_away}
 use Rattle.rules.proofs.Stepping.{stepped}
 use Rattle.rules.proofs.half_turn.HalfTurn.after.Goals as goal

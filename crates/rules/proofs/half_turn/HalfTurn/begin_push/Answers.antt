@@ -1,9 +1,9 @@
-use Rattle.std.proofs.Common.{◌≡◌, ℕ, ◌+◌, Bool, true, false, not, ◌&&◌, sym, ap, ◌∙◌, subst, ap₂}
+use Rattle.std.proofs.Common.{◌≡◌, ℕ, ◌+◌, not, sym, ap, ◌∙◌, subst, ap₂}
 use Rattle.std.proofs.lemmas.Result.{err_from_is_err_and}
 use Rattle.board.specs.Refusals.{refusal_number}
 use Rattle.rules.specs.Codes.{square}
 use Rattle.rules.specs.declared.pending.Pending.{Pending}
-use Rattle.rules.specs.HalfTurns.{Half, Open, opened, half_of}
+use Rattle.rules.specs.HalfTurns.{opened, half_of}
 use Rattle.rules.specs.HalfTurns.Half.{half}
 use Rattle.rules.specs.HalfTurns.Open.{push_open}
 use Rattle.rules.proofs.Alike.{turn_none, turn_first}

@@ -1,7 +1,6 @@
-use Rattle.std.proofs.Common.{◌≡◌, ℕ, ◌<◌, true, false, sym, subst}
+use Rattle.std.proofs.Common.{ℕ, subst}
 use Rattle.std.proofs.lemmas.Bool.{false≢true}
 use Rattle.std.proofs.lemmas.Bool.Decides.{Decides-like}
-use Rattle.bits.specs.Squares.{Toward}
 use Rattle.board.proofs.Holding.{on_board}
 use Rattle.rules.specs.Actions.{CanPush}
 use Rattle.rules.proofs.Going.{toward_one}

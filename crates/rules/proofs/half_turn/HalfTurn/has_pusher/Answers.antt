@@ -1,4 +1,4 @@
-use Rattle.std.proofs.Common.{◌≡◌, ℕ, ◌||◌, ◌⊎◌, inl, inr}
+use Rattle.std.proofs.Common.{ℕ, ◌||◌, ◌⊎◌, inl, inr}
 use Rattle.std.proofs.lemmas.Bool.Decides.{Decides-or, Decides-like}
 use Rattle.bits.specs.declared.direction.Direction.{Direction}
 use Rattle.bits.specs.declared.direction.Direction.TheVariants.{North, East, South, West}

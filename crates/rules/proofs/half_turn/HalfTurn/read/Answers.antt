@@ -1,7 +1,6 @@
-use Rattle.std.proofs.Common.{◌≡◌, true, false, not, ◌&&◌, Decides}
-use Rattle.std.proofs.lemmas.Bool.Decides.{Decides-and, Decides-not, Decides-like, not_from_Decides}
-use Rattle.rules.specs.HalfTurns.{opened, half_of}
-use Rattle.rules.specs.Checks.{Foreign}
+use Rattle.std.proofs.Common.{not, ◌&&◌}
+use Rattle.std.proofs.lemmas.Bool.Decides.{not_from_Decides}
+use Rattle.rules.specs.HalfTurns.{opened}
 use Rattle.rules.proofs.Taking.{closed, decides_enemy}
 use Rattle.rules.proofs.Reading.{reads_finish, reads_begin, reads_step}
 use Rattle.rules.proofs.half_turn.HalfTurn.read.Goals as goal

@@ -2,11 +2,10 @@ use Rattle.std.proofs.Common.{◌≡◌, ℕ, ◌+◌, sym, ap, ◌∙◌, subst
 use Rattle.std.proofs.lemmas.Result.{err_from_is_err_and}
 use Rattle.std.proofs.lemmas.Bool.Decides.{not_from_Decides}
 use Rattle.board.specs.Refusals.{refusal_number}
-use Rattle.rules.specs.Codes.{square}
 use Rattle.rules.specs.declared.pending.Pending.{Pending}
 use Rattle.rules.specs.HalfTurns.{opened, half_of}
 use Rattle.rules.specs.HalfTurns.Half.{half}
-use Rattle.rules.specs.HalfTurns.Open.{nothing, pull_possible}
+use Rattle.rules.specs.HalfTurns.Open.{pull_possible}
 use Rattle.rules.specs.Answers.{Steps}
 use Rattle.rules.proofs.Alike.{turn_none, turn_first}
 use Rattle.rules.proofs.Taking.{decides_many, decides_foreign, pull_taken, plain_taken}
