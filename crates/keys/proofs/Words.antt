@@ -44,15 +44,15 @@ turned_reversed Equal = refl
 turned_reversed Greater = refl
 
 -- keys that are told apart by one list of numbers, and ordered by another
-module _ {K : Type 0} (words ranked : K → List ℕ) (by-words : (x y : K) → words x ≡ words y → ranked x ≡ ranked y) (by_ranked : (x y : K) → ranked x ≡ ranked y → words x ≡ words y) where
+module _ {K : Type 0} (words ranked : K → List ℕ) (by_words : (x y : K) → words x ≡ words y → ranked x ≡ ranked y) (by_ranked : (x y : K) → ranked x ≡ ranked y → words x ≡ words y) where
   pub compares : (x y : K) (r : Ordering) → r ≡ word_order (ranked x) (ranked y)
       → Compares (λ a b. same_words (words a) (words b)) (λ a b. word_order (ranked a) (ranked b)) x y r
   compares x y r e =
       record {
         value = e;
         tie = λ t. subst (λ ws. same_words (words x) ws ≡ true) (by_ranked x y (order_tie (ranked x) (ranked y) (sym e ∙ t))) (words_self (words x));
-        tied = λ s. e ∙ subst (λ rs. word_order (ranked x) rs ≡ Equal) (by-words x y (words_is (words x) (words y) s)) (order_self (ranked x));
-        alike = λ z s. ap (λ rs. word_order rs (ranked y)) (sym (by-words x z (words_is (words x) (words z) s))) ∙ sym e;
+        tied = λ s. e ∙ subst (λ rs. word_order (ranked x) rs ≡ Equal) (by_words x y (words_is (words x) (words y) s)) (order_self (ranked x));
+        alike = λ z s. ap (λ rs. word_order rs (ranked y)) (sym (by_words x z (words_is (words x) (words z) s))) ∙ sym e;
         turns = (lists_total nat_cmp_total).antisymm (ranked y) (ranked x) ∙ ap ordering_reverse (sym e) ∙ turned_reversed r;
         climbs = λ z l m. (lists_total nat_cmp_total).trans (ranked x) (ranked y) (ranked z) (sym e ∙ l) m;
       }

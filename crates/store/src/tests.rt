@@ -70,7 +70,7 @@ fn go_through<S: Store<Noted>>(rt: &impl Abort, store: &mut S) {
         store.count(&Noted {
             number: 11,
             note: 1,
-        },),
+        }),
         0
     );
     for note in 0..253 {
@@ -85,7 +85,7 @@ fn go_through<S: Store<Noted>>(rt: &impl Abort, store: &mut S) {
         store.count(&Noted {
             number: 11,
             note: 0,
-        },),
+        }),
         1
     );
 }
