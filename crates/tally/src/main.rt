@@ -1,6 +1,7 @@
 // Counts the lines of standard input by their first 64 bytes, in a store of the make and the capacity that are named.
 #![tactic(auto)]
 
+use anyhow::anyhow;
 use lines::{Line, tally};
 use std::env;
 use std::io::Read;
@@ -25,18 +26,18 @@ fn stores(rt: &HostRuntime) -> anyhow::Result<Vec<(Make, usize)>> {
         let make = match word.as_str() {
             "table" => Make::Table,
             "tree" => Make::Tree,
-            _ => return Err(USAGE.into()),
+            _ => return Err(anyhow!(USAGE)),
         };
         let Some(capacity) = words.next() else {
-            return Err(USAGE.into());
+            return Err(anyhow!(USAGE));
         };
         let Ok(capacity) = capacity.as_str().parse::<usize>() else {
-            return Err(USAGE.into());
+            return Err(anyhow!(USAGE));
         };
         stores.push((make, capacity))?;
     }
     if stores.is_empty() {
-        return Err(USAGE.into());
+        return Err(anyhow!(USAGE));
     }
     Ok(stores)
 }
@@ -48,13 +49,13 @@ fn write_tally(rt: &HostRuntime, make: Make, capacity: usize, text: &[u8]) -> an
     let held = match make {
         Make::Table => {
             let Ok(mut slots) = slots::<Line>(heap, capacity) else {
-                return Err(NO_MEMORY.into());
+                return Err(anyhow!(NO_MEMORY));
             };
             tally(&mut Table::new(slots.as_mut_slice()), text, &mut out)?
         }
         Make::Tree => {
             let Ok(mut nodes) = nodes::<Line>(heap, capacity) else {
-                return Err(NO_MEMORY.into());
+                return Err(anyhow!(NO_MEMORY));
             };
             tally(&mut Tree::new(nodes.as_mut_slice()), text, &mut out)?
         }

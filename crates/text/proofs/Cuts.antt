@@ -1,5 +1,5 @@
 -- The pieces of a text by its first parting byte, and by its last byte.
-use Rattle.std.proofs.Common.{◌≡◌, ℕ, zero, suc, ◌+◌, ◌<◌, false, cond, eqb, List, [], ◌∷◌, ◌++◌, length, get_or, take, drop, sym, refl, ap, ◌∙◌, suc-le-suc, zero-le, arith, eq-eqb, ne_eqb}
+use Rattle.std.proofs.Common.{◌≡◌, ℕ, zero, suc, ◌<◌, false, cond, eqb, List, [], ◌∷◌, ◌++◌, length, get_or, take, drop, sym, refl, ap, ◌∙◌, suc-le-suc, zero-le, arith, eq-eqb, ne_eqb}
 use Rattle.text.specs.Parting.{onto, pieces, lines_of}
 
 -- no byte parts the text

@@ -4,8 +4,8 @@ use Rattle.text.proofs.Cuts.{no_lines, last_ended, last_open}
 use Rattle.text.proofs.fields.lines.Goals as goal
 use Rattle.text.proofs.fields.lines.Goals.{then-last-by, else-last-by}
 
-pub returns-in-default : goal.returns-in-default
-returns-in-default c = no_lines c.args.text.now c.in-default.ensures.cases
+pub returns-in_default : goal.returns-in_default
+returns-in_default c = no_lines c.args.text.now c.in_default.ensures.cases
 
 pub returns : goal.returns
 returns c =
