@@ -1,5 +1,5 @@
 -- A square is next to another exactly where it lies one square from it in some direction.
-use Rattle.std.proofs.Common.{◌≡◌, ℕ, ◌⊎◌, sym, inl, inr}
+use Rattle.std.proofs.Common.{ℕ, sym, inl, inr}
 use Rattle.bits.specs.declared.direction.Direction.{Direction}
 use Rattle.bits.specs.declared.direction.Direction.TheVariants.{North, East, South, West}
 use Rattle.bits.specs.Squares.{Toward, Next}

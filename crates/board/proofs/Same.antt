@@ -1,14 +1,15 @@
 -- Boards with the same on every square are the same board.
-use Rattle.std.proofs.Common.{◌≡◌, ℕ, ◌+◌, ◌*◌, ◌<◌, ◌≤◌, sym, refl, ap, ◌∙◌, arith}
-use mathlib.Core.HLevel.{is_prop→PathP, Π_prop, ×_prop}
+use Rattle.std.proofs.Common.{◌≡◌, ℕ, ◌+◌, ◌*◌, ◌<◌, sym, ap, ◌∙◌, arith}
+use Rattle.std.specs.Prelude.{Decides}
+use Rattle.std.proofs.lemmas.Bool.Decides.{Decides-like, Decides-and, Decides-eqb}
+use mathlib.Core.HLevel.{is_prop→PathP}
 use native.Mathlib.Bridge.{le_prop}
-use Rattle.bits.specs.declared.plane.Plane.{Plane}
 use Rattle.bits.specs.Planes.{on}
 use Rattle.bits.proofs.Same.{on_lt, plane_by_word, plane_same}
 use Rattle.board.specs.declared.pieces.Side.TheVariants.{Gold}
 use Rattle.board.specs.declared.board.Board.{Board}
 use Rattle.board.specs.Planes.{Fitting}
-use Rattle.board.specs.Cells.{cell, words_of, SameSquares}
+use Rattle.board.specs.Cells.{words_of, same_planes, SameSquares}
 use Rattle.board.specs.Counts.{of_side, strength_in}
 use Rattle.board.proofs.Holding.{strength_law, gold_law}
 
@@ -27,6 +28,15 @@ planes_same b d g o t f = λ i.
 pub words_same : (b d : Board) → words_of b ≡ words_of d → b ≡ d
 words_same b d e =
     planes_same b d (plane_by_word b.gold d.gold (cc)) (plane_by_word b.ones d.ones (cc)) (plane_by_word b.twos d.twos (cc)) (plane_by_word b.fours d.fours (cc))
+
+-- whether the planes are the same decides whether the boards are
+pub planes_decide : (b d : Board) → Decides (same_planes b d) (b ≡ d)
+planes_decide b d =
+    Decides-like (same_planes b d)
+    (λ e. planes_same b d (plane_by_word b.gold d.gold e.0.0.0) (plane_by_word b.ones d.ones e.0.0.1) (plane_by_word b.twos d.twos e.0.1) (plane_by_word b.fours d.fours e.1))
+    (λ e. (((ap (λ (x : Board). x.gold.word) e, ap (λ (x : Board). x.ones.word) e), ap (λ (x : Board). x.twos.word) e), ap (λ (x : Board). x.fours.word) e))
+    (Decides-and _ _ (Decides-and _ _ (Decides-and _ _ (Decides-eqb b.gold.word d.gold.word) (Decides-eqb b.ones.word d.ones.word)) (Decides-eqb b.twos.word d.twos.word))
+    (Decides-eqb b.fours.word d.fours.word))
 
 pub board_same : (b d : Board) → SameSquares b d → b ≡ d
 board_same b d e =

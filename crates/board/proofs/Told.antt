@@ -1,5 +1,5 @@
 -- What `==` tells of two values decides whether they are equal.
-use Rattle.std.proofs.Common.{◌≡◌, Bool, true, false, cond, Decides, refl}
+use Rattle.std.proofs.Common.{Bool, true, false, cond, Decides, refl}
 use Rattle.std.proofs.lemmas.Bool.{false≢true}
 
 pub told : {A : Type 0} (r : Bool) → cond r A (A → ⊥) → Decides r A

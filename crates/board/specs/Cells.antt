@@ -1,5 +1,6 @@
 -- What stands on each square of a board.
-use Rattle.std.specs.Prelude.{◌≡◌, ℕ, zero, suc, ◌<◌, ◌≢◌, List, [], ◌∷◌, Some, None, Option}
+use Rattle.std.specs.Prelude.{◌≡◌, ℕ, zero, suc, ◌<◌, ◌≢◌, List, [], ◌∷◌, Some, None, Option, Bool, ◌==◌}
+use Rattle.std.specs.Ordering.{eq_of_both, on as by}
 use Rattle.bits.specs.Planes.{on}
 use Rattle.board.specs.declared.pieces.Side.{Side}
 use Rattle.board.specs.declared.pieces.Side.TheVariants.{Gold, Silver}
@@ -32,6 +33,12 @@ cell b s = decode (on b.gold s) (on b.fours s) (on b.twos s) (on b.ones s)
 -- the words of the planes of Gold, of the ones, of the twos and of the fours
 abbrev pub words_of : Board → List ℕ
 words_of b = b.gold.word ∷ b.ones.word ∷ b.twos.word ∷ b.fours.word ∷ []
+
+-- the four planes of the boards are the same
+abbrev pub same_planes : Board → Board → Bool
+same_planes =
+    eq_of_both (eq_of_both (eq_of_both (by (λ b. b.gold.word) ◌==◌) (by (λ b. b.ones.word) ◌==◌)) (by (λ b. b.twos.word) ◌==◌))
+    (by (λ b. b.fours.word) ◌==◌)
 
 -- the two boards have the same on each of the 64 squares
 abbrev pub SameSquares : Board → Board → Type 0

@@ -1,8 +1,7 @@
 -- How many pieces of a kind a board has.
-use Rattle.std.specs.Prelude.{◌≡◌, ℕ, ◌*◌, ◌≤◌, cond, Some, None, Option, ◌==◌, nat_lt}
+use Rattle.std.specs.Prelude.{ℕ, ◌*◌, ◌≤◌, cond, Some, None, Option, ◌==◌, nat_lt}
 use Rattle.bits.specs.Digits.{tally}
 use Rattle.board.specs.declared.pieces.Side.{Side}
-use Rattle.board.specs.declared.pieces.Side.TheVariants.{Gold, Silver}
 use Rattle.board.specs.declared.pieces.Kind.{Kind}
 use Rattle.board.specs.declared.pieces.Piece.{Piece}
 use Rattle.board.specs.declared.board.Board.{Board}

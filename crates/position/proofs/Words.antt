@@ -1,10 +1,11 @@
 -- Positions by their words.
-use Rattle.std.proofs.Common.{◌≡◌, ℕ, Bool, true, false, List, Decides, sym, refl, ap, ◌∙◌, arith}
-use Rattle.std.proofs.lemmas.Bool.{not_from_false, cases_Bool, both_ways}
+use Rattle.std.proofs.Common.{◌≡◌, Decides, sym, refl, ap, ◌∙◌, arith}
 use Rattle.board.specs.declared.pieces.Side.{Side}
 use Rattle.board.specs.declared.pieces.Side.TheVariants.{Gold, Silver}
 use Rattle.board.specs.Pieces.{side_number}
-use Rattle.board.proofs.Same.{words_same}
+use Rattle.std.proofs.lemmas.Bool.Decides.{Decides-like, Decides-and, Decides-eqb}
+use Rattle.board.proofs.Same.{planes_decide, words_same}
+use Rattle.position.specs.Equality.{same_position}
 use Rattle.keys.specs.Words.{same_words}
 use Rattle.keys.proofs.Words.{words_self, words_is}
 use Rattle.position.specs.declared.Position.{Position}
@@ -15,6 +16,12 @@ side_same Gold Gold e = refl
 side_same Gold Silver e = absurd (omega arith)
 side_same Silver Gold e = absurd (omega arith)
 side_same Silver Silver e = refl
+
+pub position_decide : (p q : Position) → Decides (same_position p q) (p ≡ q)
+position_decide p q =
+    Decides-like (same_position p q) (λ e. let s = side_same p.side q.side e.0 in λ i. record { board = e.1 i; side = s i })
+    (λ e. (ap (λ (x : Position). side_number x.side) e, ap (λ (x : Position). x.board) e))
+    (Decides-and _ _ (Decides-eqb (side_number p.side) (side_number q.side)) (planes_decide p.board q.board))
 
 -- equal words make equal positions
 pub position_same : (p q : Position) → position_words p ≡ position_words q → p ≡ q
@@ -33,10 +40,3 @@ same_ranked p q e = ap ranked_words (position_same p q e)
 pub keys_decide : (p q : Position) → Decides (same_words (position_words p) (position_words q)) (p ≡ q)
 keys_decide p q =
     (λ t. position_same p q (words_is (position_words p) (position_words q) t), λ e. ap (λ x. same_words (position_words p) (position_words x)) (sym e) ∙ words_self (position_words p))
-
--- two answers to one question are the same
-pub decided_same : {A : Type 0} (r s : Bool) → Decides r A → Decides s A → r ≡ s
-decided_same true true f g = refl
-decided_same true false f g = sym (g.1 (f.0 refl))
-decided_same false true f g = f.1 (g.0 refl)
-decided_same false false f g = refl

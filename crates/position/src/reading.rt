@@ -5,6 +5,7 @@ ghost use Rattle.board.specs.Cells.{SameSquares};
 ghost use Rattle.board.specs.Counts.{Lawful};
 ghost use Rattle.board.specs.Refusals.{refusal_number, NoneHits, FirstHit};
 ghost use Rattle.board.specs.Reading.{Shows, position_checks};
+ghost use Rattle.position.specs.Equality.{same_position};
 ghost use Rattle.std.specs.Cmp.Rules.{comparing};
 ghost use Rattle.std.proofs.Common.{rules};
 
@@ -37,12 +38,16 @@ impl Position {
 }
 
 impl PartialEq for Position {
-    // Positions are equal exactly if they agree in the 64 squares and the side.
-    ghost equals = { λ p q r. Decides r (p ≡ q) × Decides r (SameSquares p.board q.board × (p.side ≡ q.side)) };
+    ghost eq = { same_position };
 
     ghost laws = { Prim.search (comparing, rules) };
 
-    fn eq(&self, other: &Position) -> bool {
+    // Positions are equal exactly if they agree in the 64 squares and the side.
+    fn eq(&self, other: &Position) -> bool
+        ensures value { result ≡ same_position self.now other.now }
+        ensures same { Decides result (self.now ≡ other.now) }
+        ensures agreement { Decides result (SameSquares self.now.board other.now.board × (self.now.side ≡ other.now.side)) }
+    {
         (self.side == other.side) & (self.board == other.board)
     }
 }

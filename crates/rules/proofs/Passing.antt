@@ -2,7 +2,6 @@
 use Rattle.std.proofs.Common.{◌≡◌, ℕ, Bool, true, false, is_some, Some, None, Option, sym, ap, ◌∙◌}
 use Rattle.std.proofs.lemmas.Bool.{both_ways}
 use Rattle.bits.specs.declared.direction.Direction.{Direction}
-use Rattle.bits.specs.declared.square.Square.{Square}
 use Rattle.bits.specs.Squares.{Toward}
 use Rattle.board.specs.declared.pieces.Side.{Side}
 use Rattle.board.specs.declared.pieces.Kind.TheVariants.{Rabbit}

@@ -4,7 +4,7 @@ use Rattle.std.proofs.lemmas.Result.{MatchResult-weaker}
 use Rattle.board.specs.declared.refusal.Refusal.{Refusal}
 use Rattle.board.specs.Refusals.{refusal_number}
 use Rattle.rules.specs.declared.half_turn.HalfTurn.{HalfTurn}
-use Rattle.rules.specs.HalfTurns.{Half, NoPush, opened, half_of, CouldEnd, StepsPush, StepsAfter, Takes}
+use Rattle.rules.specs.HalfTurns.{Half, NoPush, opened, half_of, StepsPush, StepsAfter, Takes}
 use Rattle.rules.specs.HalfTurns.Takes.{plain, pull, push, after}
 use Rattle.rules.specs.Checks.{Foreign, step_checks, begin_checks, finish_checks, read_checks}
 use Rattle.rules.specs.Answers.{Answers, GoesOn, Steps}

@@ -1,5 +1,5 @@
 -- What a run of codes says of turns.
-use Rattle.std.proofs.Common.{◌≡◌, ℕ, zero, suc, ◌<◌, ◌≤◌, Bool, true, false, eqb, List, [], ◌∷◌, ◌++◌, length, get_or, take, MatchBool, sym, refl, ap, ◌∙◌, subst, le_of_suc-le-suc, not-suc-le-zero, arith}
+use Rattle.std.proofs.Common.{◌≡◌, ℕ, zero, suc, ◌<◌, ◌≤◌, Bool, true, false, eqb, List, [], ◌∷◌, ◌++◌, length, get_or, take, MatchBool, sym, refl, ap, subst, le_of_suc-le-suc, not-suc-le-zero, arith}
 use Rattle.board.specs.declared.pieces.Side.{Side}
 use Rattle.board.specs.declared.pieces.Kind.{Kind}
 use Rattle.board.specs.declared.board.Board.{Board}
@@ -7,7 +7,7 @@ use Rattle.board.specs.Refusals.{Check, NoneHits, FirstHit}
 use Rattle.board.specs.Counts.{Lawful}
 use Rattle.rules.specs.Steps.{Step}
 use Rattle.rules.specs.Actions.{Turn}
-use Rattle.rules.specs.HalfTurns.{Open, Half, NoPush, StepsPlain, StepsPull, StepsPush, StepsAfter, Takes, Runs, start}
+use Rattle.rules.specs.HalfTurns.{Open, Half, NoPush, Takes, Runs, start}
 use Rattle.rules.specs.HalfTurns.Open.{nothing, pull_possible, push_open}
 use Rattle.rules.specs.HalfTurns.Half.{half}
 use Rattle.rules.specs.HalfTurns.StepsPlain.{steps}

@@ -1,5 +1,5 @@
 -- A step from what the code finds on the board.
-use Rattle.std.proofs.Common.{◌≡◌, ℕ, ◌<◌, true, false, is_some as option_is_some, Some, None, Option, sym, refl, ap, ◌∙◌, subst}
+use Rattle.std.proofs.Common.{◌≡◌, ℕ, ◌<◌, true, false, is_some as option_is_some, Some, None, Option, refl, subst}
 use Rattle.std.proofs.lemmas.Bool.{true≢false, false≢true}
 use Rattle.bits.specs.declared.direction.Direction.{Direction}
 use Rattle.bits.specs.Squares.{Toward}

@@ -1,5 +1,5 @@
 -- What the calls take when no check hits.
-use Rattle.std.proofs.Common.{◌≡◌, ℕ, ◌+◌, ◌<◌, ◌≤◌, Bool, true, false, not, ◌&&◌, ltb, ◌⊎◌, Some, None, Decides, sym, refl, ap, ◌∙◌, subst, inl, inr, ⊎_elim, arith}
+use Rattle.std.proofs.Common.{◌≡◌, ℕ, ◌+◌, ◌<◌, ◌≤◌, Bool, true, false, not, ◌&&◌, ltb, ◌⊎◌, Some, Decides, refl, subst, inl, inr, ⊎_elim}
 use Rattle.std.proofs.lemmas.Bool.{cases_lt, cases_Bool, false≢true}
 use Rattle.std.proofs.lemmas.Bool.Decides.{not_from_Decides, Decides-not, Decides-and, Decides-ltb, Decides-like}
 use Rattle.board.specs.declared.pieces.Side.{Side}
@@ -11,7 +11,7 @@ use Rattle.board.specs.Cells.{cell}
 use Rattle.board.specs.Refusals.{NoneHits}
 use Rattle.rules.specs.Codes.{square}
 use Rattle.rules.specs.Steps.{Own, Step}
-use Rattle.rules.specs.Actions.{BeginsPush, FinishesPush}
+use Rattle.rules.specs.Actions.{BeginsPush}
 use Rattle.rules.specs.HalfTurns.{Open, NoPush, Ends, Finishes, StepsPlain, StepsPull, StepsPush, StepsAfter}
 use Rattle.rules.specs.HalfTurns.Open.{nothing, pull_possible, push_open}
 use Rattle.rules.specs.HalfTurns.Half.{half}

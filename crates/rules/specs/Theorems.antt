@@ -1,5 +1,5 @@
 -- Whoever has a turn has one that ends on another board.
-use Rattle.std.specs.Prelude.{◌≡◌, ℕ, List, ◌≢◌}
+use Rattle.std.specs.Prelude.{ℕ, List, ◌≢◌}
 use Rattle.board.specs.declared.pieces.Side.{Side}
 use Rattle.board.specs.declared.board.Board.{Board}
 use Rattle.rules.specs.Actions.{Turn}

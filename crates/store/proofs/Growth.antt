@@ -7,7 +7,7 @@ use Rattle.store.specs.Cells.{Cell, vacant, occupied, is_held, holds, at, seen, 
 use Rattle.store.specs.Trees.{entry, cells, taken, blank, to, way, onward, next, walk, Goes, Passes, Under, Ends, Grown}
 use Rattle.store.specs.declared.tree.Node.{Node}
 use Rattle.store.specs.declared.tree.Spot.TheVariants.{Root, Left, Right}
-use Rattle.store.proofs.Cells.{after, before, same_by, held_room, holds_held, inserted, inserted_raised, bumped, bumped_raised}
+use Rattle.store.proofs.Cells.{before, same_by, held_room, holds_held, inserted, inserted_raised, bumped, bumped_raised}
 use Rattle.store.proofs.Trees.{past_free, cells_set, entry_more, goes_held, onward_equal, cases_goes, next_way, on_way, walk_like, ended}
 
 -- a link is as it was, or it led to no key and now leads to i

@@ -6,7 +6,7 @@ use Rattle.store.specs.Views.{Empty}
 use Rattle.store.specs.Cells.{Cell, vacant, occupied, is_held, holds, at, seen}
 use Rattle.store.specs.Trees.{entry, cells, taken, to, way, turn, onward, next, walk, Goes, Turns, Passes, Under, Grown}
 use Rattle.store.specs.declared.tree.Node.{Node}
-use Rattle.store.proofs.Cells.{never, in_range, after, before, holds_held, at_most, cleared}
+use Rattle.store.proofs.Cells.{never, in_range, after, holds_held, at_most, cleared}
 
 not_equal : (s : Bool) → way s ≡ Equal → ⊥
 not_equal true e = let z : ◌≡◌ {A = ℕ} 0 1 = cc in omega arith

@@ -1,9 +1,9 @@
 // What stands on the squares of a board.
 ghost use Rattle.std.specs.Prelude.{◌≡◌, ℕ, ◌+◌, ◌*◌, ◌≤◌, ◌≢◌, if◌then◌else◌, None, Decides};
 ghost use Rattle.bits.specs.Planes.{on};
-ghost use Rattle.board.specs.Cells.{cell, decode, SameSquares, Changed};
+ghost use Rattle.board.specs.Cells.{cell, decode, same_planes, SameSquares, Changed};
 ghost use Rattle.std.specs.Cmp.Rules.{comparing};
-ghost use Rattle.std.proofs.Common.{rules, arith};
+ghost use Rattle.std.proofs.Common.{rules};
 
 use super::Board;
 use crate::{Kind, Piece, Side};
@@ -119,12 +119,16 @@ impl Board {
 }
 
 impl PartialEq for Board {
+    ghost eq = { same_planes };
+
+    ghost laws = { Prim.search (comparing, rules) };
+
     // Boards are equal exactly if they have the same on every square.
-    ghost equals = { λ a b r. Decides r (a ≡ b) × Decides r (SameSquares a b) };
-
-    ghost laws = { first_of (Prim.search (comparing, rules), Prim.grind (arith, Self.row.coded.inj)) };
-
-    fn eq(&self, other: &Board) -> bool {
+    fn eq(&self, other: &Board) -> bool
+        ensures value { result ≡ same_planes self.now other.now }
+        ensures same { Decides result (self.now ≡ other.now) }
+        ensures same_squares { Decides result (SameSquares self.now other.now) }
+    {
         (self.gold == other.gold)
             & (self.ones == other.ones)
             & (self.twos == other.twos)

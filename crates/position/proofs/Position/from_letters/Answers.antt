@@ -1,7 +1,5 @@
-use Rattle.std.proofs.Common.{◌≡◌, ℕ, ◌<◌, ◌≤◌, true, false, ◌⊎◌, List, length, get_or, Option, sym, subst, inl, inr, arith}
-use Rattle.std.proofs.lemmas.Bool.{not-true}
+use Rattle.std.proofs.Common.{◌≡◌, ℕ, ◌<◌, List, length, get_or, Option, subst, arith}
 use Rattle.std.proofs.lemmas.Bool.Decides.{not_from_Decides}
-use Rattle.bits.specs.Planes.{on}
 use Rattle.bits.proofs.Same.{some_square}
 use Rattle.board.specs.declared.pieces.Side.{Side}
 use Rattle.board.specs.declared.pieces.Side.TheVariants.{Gold, Silver}
@@ -17,8 +15,8 @@ use Rattle.board.specs.Reading.{Shows}
 use Rattle.board.proofs.Reading.{shows_one}
 use Rattle.position.proofs.Position.from_letters.Goals as goal
 use Rattle.position.proofs.Position.from_letters.Goals.{
-  then-exceeds-full-set-via-then-exceeds-full-set,
-  then-exceeds-full-set-via-else-exceeds-full-set+then-exceeds-full-set-2,
+  then-exceeds_full_set-via-then-exceeds_full_set,
+  then-exceeds_full_set-via-else-exceeds_full_set+then-exceeds_full_set-2,
 }
 
 -- a side of the game has a number below two
@@ -35,17 +33,17 @@ neither_exceeds : (b : Board) → ((kind : Kind) × (full kind < count_of b Gold
 neither_exceeds b g s Gold kind h = g (kind, h)
 neither_exceeds b g s Silver kind h = s (kind, h)
 
-pub returns-then-exceeds-full-set : goal.returns-then-exceeds-full-set
-returns-then-exceeds-full-set c =
+pub returns-then-exceeds_full_set : goal.returns-then-exceeds_full_set
+returns-then-exceeds_full_set c =
     let letters = c.args.letters.now in
-    let b = c.in-Some-from-letters.board in
-    let shown = c.in-Some-from-letters.ensures.1 in
+    let b = c.in-Some-from_letters.board in
+    let shown = c.in-Some-from_letters.ensures.1 in
     let over : (side : Side) × (kind : Kind) × (full kind < count_of b side kind) =
-    elim c.then-exceeds-full-set.branch [
-      | then-exceeds-full-set-via-then-exceeds-full-set w ↦
-          let f = c.exceeds-full-set.ensures.0 w.if-exceeds-full-set.true in (Gold, f.0, f.1)
-      | then-exceeds-full-set-via-else-exceeds-full-set+then-exceeds-full-set-2 w ↦
-          let f = w.exceeds-full-set-else-exceeds-full-set.ensures.0 w.if-exceeds-full-set-2.true in (Silver, f.0, f.1)
+    elim c.then-exceeds_full_set.branch [
+      | then-exceeds_full_set-via-then-exceeds_full_set w ↦
+          let f = c.exceeds_full_set.ensures.0 w.if-exceeds_full_set.true in (Gold, f.0, f.1)
+      | then-exceeds_full_set-via-else-exceeds_full_set+then-exceeds_full_set-2 w ↦
+          let f = w.exceeds_full_set-else-exceeds_full_set.ensures.0 w.if-exceeds_full_set-2.true in (Silver, f.0, f.1)
     ] in
     record {
       exact = (
@@ -55,15 +53,15 @@ returns-then-exceeds-full-set c =
       lawful = tt;
     }
 
-pub returns-then-not-is-empty : goal.returns-then-not-is-empty
-returns-then-not-is-empty c =
+pub returns-then-not-is_empty : goal.returns-then-not-is_empty
+returns-then-not-is_empty c =
     let letters = c.args.letters.now in
-    let b = c.in-Some-from-letters.board in
-    let shown = c.in-Some-from-letters.ensures.1 in
+    let b = c.in-Some-from_letters.board in
+    let shown = c.in-Some-from_letters.ensures.1 in
     let gone = c.unsupported.result in
-    let lone = some_square gone (not_from_Decides c.is-empty.result c.is-empty.ensures c.if-not-is-empty.true) in
-    let fits = neither_exceeds b (not_from_Decides c.exceeds-full-set.result c.exceeds-full-set.ensures c.if-exceeds-full-set.false)
-    (not_from_Decides c.exceeds-full-set-else-exceeds-full-set.result c.exceeds-full-set-else-exceeds-full-set.ensures c.if-exceeds-full-set-2.false) in
+    let lone = some_square gone (not_from_Decides c.is_empty.result c.is_empty.ensures c.if-not-is_empty.true) in
+    let fits = neither_exceeds b (not_from_Decides c.exceeds_full_set.result c.exceeds_full_set.ensures c.if-exceeds_full_set.false)
+    (not_from_Decides c.exceeds_full_set-else-exceeds_full_set.result c.exceeds_full_set-else-exceeds_full_set.ensures c.if-exceeds_full_set-2.false) in
     record {
       exact = (
         (λ n. n c.if-letters-ne64.false),
@@ -84,13 +82,13 @@ returns-then-not-is-empty c =
 pub returns : goal.returns
 returns c =
     let letters = c.args.letters.now in
-    let b = c.in-Some-from-letters.board in
-    let shown = c.in-Some-from-letters.ensures.1 in
+    let b = c.in-Some-from_letters.board in
+    let shown = c.in-Some-from_letters.ensures.1 in
     let gone = c.unsupported.result in
-    let fits = neither_exceeds b (not_from_Decides c.exceeds-full-set.result c.exceeds-full-set.ensures c.if-exceeds-full-set.false)
-    (not_from_Decides c.exceeds-full-set-else-exceeds-full-set.result c.exceeds-full-set-else-exceeds-full-set.ensures c.if-exceeds-full-set-2.false) in
+    let fits = neither_exceeds b (not_from_Decides c.exceeds_full_set.result c.exceeds_full_set.ensures c.if-exceeds_full_set.false)
+    (not_from_Decides c.exceeds_full_set-else-exceeds_full_set.result c.exceeds_full_set-else-exceeds_full_set.ensures c.if-exceeds_full_set-2.false) in
     let none : (s : ℕ) → Unsupported b s → ⊥ =
-    λ s u. let x = (c.unsupported.ensures s).1 u in let y = c.is-empty.ensures.0 c.if-not-is-empty.false s in omega arith in
+    λ s u. let x = (c.unsupported.ensures s).1 u in let y = c.is_empty.ensures.0 c.if-not-is_empty.false s in omega arith in
     record {
       exact = (
         (

@@ -7,10 +7,9 @@ use Rattle.board.specs.declared.board.Board.{Board}
 use Rattle.board.specs.declared.refusal.Refusal.{Refusal}
 use Rattle.board.specs.Counts.{Lawful}
 use Rattle.board.specs.Refusals.{refusal_number, FirstHit}
-use Rattle.rules.specs.declared.playing.Played.{Played}
 use Rattle.rules.specs.declared.playing.Played.TheVariants.{Start, Whole, Half, Refused}
 use Rattle.rules.specs.Actions.{Turn}
-use Rattle.rules.specs.HalfTurns.{Half as HalfMade, opened, half_of, start, Takes, Runs}
+use Rattle.rules.specs.HalfTurns.{opened, half_of, start, Takes, Runs}
 use Rattle.rules.specs.HalfTurns.Runs.{stay}
 use Rattle.rules.specs.Checks.{read_checks}
 use Rattle.rules.proofs.Taking.{closed}
@@ -61,57 +60,57 @@ returns-in-Err c =
     let first = subst (λ (x : Side). FirstHit (read_checks x (half_of t) (get_or cs at 0)) (refusal_number c.in-Err.why)) side c.in-Err.ensures in
     record {
       exact = (half_of t, c.loop-at-test.true, run, first);
-      turns-are-what-is-read-whole = λ d. (
+      turns_are_what_is_read_whole = λ d. (
         λ u. absurd (refused_no_turn p.side p.board cs at (refusal_number c.in-Err.why) (half_of t) run c.loop-at-test.true first d u),
         λ e. absurd (refused_not e),
       );
-      a-position-stays-one = λ l d e. absurd (refused_not e);
+      a_position_stays_one = λ l d e. absurd (refused_not e);
     }
 
-pub returns-then-is-empty : goal.returns-then-is-empty
-returns-then-is-empty c =
+pub returns-then-is_empty : goal.returns-then-is_empty
+returns-then-is_empty c =
     let cs = c.args.codes.now in
-    let none : length cs ≡ 0 = eqb-true (length cs) 0 (sym c.is-empty.ensures ∙ c.if-is-empty.true) in
+    let none : length cs ≡ 0 = eqb-true (length cs) 0 (sym c.is_empty.ensures ∙ c.if-is_empty.true) in
     record {
       exact = empty_list cs none;
-      turns-are-what-is-read-whole = λ d. (λ u. absurd (omega (arith, u.some)), λ e. absurd (start_not e));
-      a-position-stays-one = λ l d e. absurd (start_not e);
+      turns_are_what_is_read_whole = λ d. (λ u. absurd (omega (arith, u.some)), λ e. absurd (start_not e));
+      a_position_stays_one = λ l d e. absurd (start_not e);
     }
 
-pub returns-then-is-push-open : goal.returns-then-is-push-open
-returns-then-is-push-open c =
+pub returns-then-is_push_open : goal.returns-then-is_push_open
+returns-then-is_push_open c =
     let t = c.loop-at.turn in
     let p = c.args.position in
     let cs = c.args.codes.now in
     let o = opened t.pending in
     let all : take c.loop-at.at cs ≡ cs = take_all c.loop-at.at cs c.loop-at-test.false in
     let run : Runs p.side (start p.board) cs (half_of t) = rw all at (runs_from c.start-turn.ensures.side c.start-turn.ensures.begins c.loop-at.invariant.1) in
-    let busy = c.is-push-open.ensures.0 c.if-is-push-open.true in
+    let busy = c.is_push_open.ensures.0 c.if-is_push_open.true in
     rw c.board.ensures
     (record {
       exact = half_push p.side p.board cs t.board t.steps o run busy;
-      turns-are-what-is-read-whole = λ d. (λ u. absurd (busy (ends_as p.side p.board cs t.board t.steps o run d u).1), λ e. absurd (half_not e));
-      a-position-stays-one = λ l d e. absurd (half_not e);
+      turns_are_what_is_read_whole = λ d. (λ u. absurd (busy (ends_as p.side p.board cs t.board t.steps o run d u).1), λ e. absurd (half_not e));
+      a_position_stays_one = λ l d e. absurd (half_not e);
     })
 
-pub returns-else-is-push-open : goal.returns-else-is-push-open
-returns-else-is-push-open c =
+pub returns-else-is_push_open : goal.returns-else-is_push_open
+returns-else-is_push_open c =
     let t = c.loop-at.turn in
     let p = c.args.position in
     let cs = c.args.codes.now in
     let o = opened t.pending in
     let all : take c.loop-at.at cs ≡ cs = take_all c.loop-at.at cs c.loop-at-test.false in
     let run : Runs p.side (start p.board) cs (half_of t) = rw all at (runs_from c.start-turn.ensures.side c.start-turn.ensures.begins c.loop-at.invariant.1) in
-    let idle = closed o (not_from_Decides c.is-push-open.result c.is-push-open.ensures c.if-is-push-open.false) in
-    let some : 1 ≤ length cs = let n = eqb-false (length cs) 0 (sym c.is-empty.ensures ∙ c.if-is-empty.false) in omega arith in
+    let idle = closed o (not_from_Decides c.is_push_open.result c.is_push_open.ensures c.if-is_push_open.false) in
+    let some : 1 ≤ length cs = let n = eqb-false (length cs) 0 (sym c.is_empty.ensures ∙ c.if-is_empty.false) in omega arith in
     let turn = whole_turn p.side p.board cs t.board t.steps o run some idle in
-    rw c.board-else-is-push-open.ensures
+    rw c.board-else-is_push_open.ensures
     (record {
       exact = turn;
-      turns-are-what-is-read-whole = λ d. (
+      turns_are_what_is_read_whole = λ d. (
         λ u. ap Whole (ends_as p.side p.board cs t.board t.steps o run d u).0,
         λ e. subst (Turn p.side p.board cs) (whole_one e) turn,
       );
-      a-position-stays-one = λ l d e.
+      a_position_stays_one = λ l d e.
           subst Lawful (whole_one e) (c.loop-at.invariant.2 (subst Lawful (sym (ap board_of c.start-turn.ensures.begins)) l));
     })

@@ -15,5 +15,5 @@ returns c = λ away.
       m,
       record { left = c.moved-moved.ensures.left away; reached = c.moved-moved.ensures.reached; others = c.moved-moved.ensures.others },
       record { gone = λ s u. c.without.ensures.gone s ((c.unsupported.ensures s).1 u); kept = λ s n. c.without.ensures.kept s (off s n) },
-      c.unsupported-piece.ensures,
+      c.unsupported_piece.ensures,
     )

@@ -4,11 +4,11 @@ use Rattle.text.specs.Fields.{to_come}
 use Rattle.text.proofs.Spelling.{first_spelled, spelled_first}
 use Rattle.turn.proofs.task.numbers.Goals as goal
 
-pub returns-in-default : goal.returns-in-default
-returns-in-default c ns h =
+pub returns-in_default : goal.returns-in_default
+returns-in_default c ns h =
     let m = c.loop-field.invariant.3 ns h
     in let s = first_spelled (to_come c.loop-field.field-iterator) c.in-Some.field.now (to_come c.next.new.self) c.in-Some.ensures.steps m.0 m.1
-    in c.in-default.ensures s.0 s.2
+    in c.in_default.ensures s.0 s.2
 
 pub loop-field-preserved : goal.loop-field-preserved
 loop-field-preserved c =
@@ -21,7 +21,7 @@ loop-field-preserved c =
       tt,
       tt,
       (λ ns h.
-          subst (Numerals (to_come c.args.fields)) (simp (c.in-ok-push.ensures.items, append_assoc))
+          subst (Numerals (to_come c.args.fields)) (simp (c.in_ok-push.ensures.items, append_assoc))
           (c.loop-field.invariant.2 (n ∷ ns) (spelled_first left text others first n ns c.in-Some-number.ensures h))),
       (λ ns h.
           let m = c.loop-field.invariant.3 ns h

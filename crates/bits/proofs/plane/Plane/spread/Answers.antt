@@ -1,8 +1,7 @@
-use Rattle.std.proofs.Common.{◌≡◌, ℕ, ◌<◌, max, ◌⊎◌, inl, inr, ⊎_elim, arith}
+use Rattle.std.proofs.Common.{◌≡◌, ℕ, ◌<◌, max, ⊎_elim, arith}
 use Rattle.std.proofs.lemmas.Bool.{cases_eq}
 use Rattle.bits.specs.declared.direction.Direction.{Direction}
 use Rattle.bits.specs.declared.direction.Direction.TheVariants.{North, East, South, West}
-use Rattle.bits.specs.declared.plane.Plane.{Plane}
 use Rattle.bits.specs.Planes.{on}
 use Rattle.bits.specs.Squares.{Toward, Next}
 use Rattle.bits.proofs.Compass.{toward_next, next_toward}

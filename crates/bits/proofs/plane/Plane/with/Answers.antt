@@ -3,8 +3,8 @@ use lib.Bits.{or_lt}
 use Rattle.bits.proofs.Digits.{digit_or, digit_lt, digit_one_here, digit_one_other}
 use Rattle.bits.proofs.plane.Plane.with.Goals as goal
 
-pub invariant-of-result : goal.invariant-of-result
-invariant-of-result c = (or_lt 64 c.args.self.word _ c.args.self.fits (mod-lt _ (pow_pos 64)), tt)
+pub invariant_of-result : goal.invariant_of-result
+invariant_of-result c = record { fits = or_lt 64 c.args.self.word _ c.args.self.fits (mod-lt _ (pow_pos 64)) }
 
 pub returns : goal.returns
 returns c =

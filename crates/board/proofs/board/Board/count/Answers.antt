@@ -1,4 +1,4 @@
-use Rattle.std.proofs.Common.{◌≡◌, ◌*◌, ◌∙◌, arith}
+use Rattle.std.proofs.Common.{◌*◌, ◌∙◌}
 use Rattle.bits.specs.Planes.{on}
 use Rattle.bits.proofs.Digits.{tally_cong}
 use Rattle.board.specs.Cells.{cell}

@@ -1,4 +1,4 @@
-use Rattle.std.proofs.Common.{◌≡◌, sym, ◌∙◌}
+use Rattle.std.proofs.Common.{sym, ◌∙◌}
 use Rattle.board.specs.Cells.{cell}
 use Rattle.board.proofs.Holding.{some_of_side, of_side_some, on_board}
 use Rattle.board.proofs.board.Board.has_friend_next.Goals as goal

@@ -1,8 +1,8 @@
-use Rattle.std.proofs.Common.{◌≡◌, ◌<◌, ◌≢◌, length, sym, ap, ◌∙◌, arith, length-set, get_or-set_other, get_or-set_same, below_more}
+use Rattle.std.proofs.Common.{◌<◌, ◌≢◌, length, ap, ◌∙◌, arith, length-set, get_or-set_other, get_or-set_same, below_more}
 use Rattle.board.specs.Letters.{spelled}
 use Rattle.board.specs.Cells.{cell}
 use Rattle.board.proofs.board.Board.letters.Goals as goal
-use Rattle.board.proofs.board.Board.letters.Goals.{in-Some, in-default}
+use Rattle.board.proofs.board.Board.letters.Goals.{in-Some, in_default}
 
 pub loop-number-preserved : goal.loop-number-preserved
 loop-number-preserved c =
@@ -17,5 +17,5 @@ loop-number-preserved c =
                 (λ s h. let away : s ≢ i = omega arith in rw get_or-set_other (c.loop-number.invariant.1 s h))
                 (rw get_or-set_same (w.letter_of.ensures ∙ ap spelled (w.at.ensures ∙ ap (cell c.args.self) at))),
           )
-      | in-default w ↦ absurd (omega (arith, w.in-default.ensures))
+      | in_default w ↦ absurd (omega (arith, w.in_default.ensures))
     ]

@@ -2,9 +2,9 @@ use Rattle.std.proofs.Common.{◌≡◌, ⊎_elim, arith}
 use Rattle.std.proofs.lemmas.Bool.{cases_eq}
 use Rattle.board.proofs.board.Board.moved.Goals as goal
 
-pub invariant-of-result : goal.invariant-of-result
-invariant-of-result c = (
-  λ s.
+pub invariant_of-result : goal.invariant_of-result
+invariant_of-result c = record {
+  fitting = λ s.
       let b = c.args.self in
       let from = c.args.from.number in
       let to = c.args.to.number in
@@ -26,6 +26,5 @@ invariant-of-result c = (
       let old = b.fitting s in
       rw (g.others s away off, o.others s away off, t.others s away off, f.others s away off) old)
       (cases_eq s from))
-      (cases_eq s to),
-  tt,
-)
+      (cases_eq s to);
+}

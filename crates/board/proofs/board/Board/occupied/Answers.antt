@@ -1,4 +1,4 @@
-use Rattle.std.proofs.Common.{◌≡◌, arith}
+use Rattle.std.proofs.Common.{arith}
 use Rattle.bits.proofs.Same.{on_lt}
 use Rattle.board.specs.Cells.{cell}
 use Rattle.board.proofs.Holding.{strength_law, occupied_strength}

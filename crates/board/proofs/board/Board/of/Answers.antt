@@ -1,4 +1,4 @@
-use Rattle.std.proofs.Common.{◌≡◌, arith}
+use Rattle.std.proofs.Common.{arith}
 use Rattle.board.specs.Cells.{cell}
 use Rattle.board.proofs.Holding.{gold_law, silver_digit}
 use Rattle.board.proofs.board.Board.of.Goals as goal

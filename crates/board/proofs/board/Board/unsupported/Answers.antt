@@ -1,4 +1,4 @@
-use Rattle.std.proofs.Common.{◌≡◌, ℕ, ◌-◌, ◌<◌, Some, sym, ◌∙◌, subst, ⊎_elim, arith}
+use Rattle.std.proofs.Common.{◌≡◌, ℕ, ◌<◌, Some, sym, ◌∙◌, subst, ⊎_elim, arith}
 use Rattle.std.proofs.lemmas.Bool.{cases_eq}
 use Rattle.bits.specs.Planes.{on}
 use Rattle.bits.proofs.Same.{on_lt}
@@ -7,7 +7,6 @@ use Rattle.board.specs.declared.pieces.Side.TheVariants.{Gold, Silver}
 use Rattle.board.specs.declared.pieces.Piece.{Piece}
 use Rattle.board.specs.Cells.{cell}
 use Rattle.board.specs.Standing.{FriendNext, Trap, Unsupported}
-use Rattle.board.proofs.Holding.{on_board}
 use Rattle.board.proofs.Lone.{lone_piece, piece_lone}
 use Rattle.board.proofs.board.Board.unsupported.Goals as goal
 
@@ -21,11 +20,11 @@ returns c = λ s.
     let silver = c.of-silver.result in
     let near-gold = c.spread.result in
     let near-silver = c.spread-2.result in
-    let lone-gold = c.minus-lone-gold.result in
-    let lone-silver = c.minus-lone-silver.result in
+    let lone_gold = c.minus-lone_gold.result in
+    let lone_silver = c.minus-lone_silver.result in
     let traps = c.traps.result in
-    let g = c.minus-lone-gold.ensures s in
-    let v = c.minus-lone-silver.ensures s in
+    let g = c.minus-lone_gold.ensures s in
+    let v = c.minus-lone_silver.ensures s in
     let either = c.or.ensures s in
     let both = c.and.ensures s in
     let piece_of : (side : Side) → Trap s → (p : Piece) × (cell b s ≡ Some p) × (p.side ≡ side) × (FriendNext b s side → ⊥) → Unsupported b s =
@@ -35,13 +34,13 @@ returns c = λ s.
           let t = (c.traps.ensures s).0 on-trap in
           let h = below s t in
           ⊎_elim
-          (λ (y : on lone-gold s ≡ 1).
+          (λ (y : on lone_gold s ≡ 1).
           piece_of Gold t (lone_piece b Gold gold near-gold c.of-gold.ensures c.spread.ensures.only c.spread.ensures.each s h (sym g ∙ y)))
-          (λ (n : on lone-gold s ≡ 1 → ⊥).
-          let y : on lone-silver s ≡ 1 = omega (arith, on_lt traps s, on_lt c.or.result s, on_lt lone-gold s, on_lt lone-silver s) in
+          (λ (n : on lone_gold s ≡ 1 → ⊥).
+          let y : on lone_silver s ≡ 1 = omega (arith, on_lt traps s, on_lt c.or.result s, on_lt lone_gold s, on_lt lone_silver s) in
           piece_of Silver t
           (lone_piece b Silver silver near-silver c.of-silver.ensures c.spread-2.ensures.only c.spread-2.ensures.each s h (sym v ∙ y)))
-          (cases_eq (on lone-gold s) 1)),
+          (cases_eq (on lone_gold s) 1)),
       (λ u.
           let h = below s u.trap in
           let on-trap = (c.traps.ensures s).1 u.trap in
@@ -50,11 +49,11 @@ returns c = λ s.
             | Gold ↦ λ m.
                 let y = piece_lone b Gold gold near-gold c.of-gold.ensures c.spread.ensures.only c.spread.ensures.each s h u.piece u.there m
                 (λ f. u.alone (subst (FriendNext b s) (sym m) f)) in
-                omega (arith, on_lt lone-silver s)
+                omega (arith, on_lt lone_silver s)
             | Silver ↦ λ m.
                 let y = piece_lone b Silver silver near-silver c.of-silver.ensures c.spread-2.ensures.only c.spread-2.ensures.each s h u.piece u.there m
                 (λ f. u.alone (subst (FriendNext b s) (sym m) f)) in
-                omega (arith, on_lt lone-gold s)
+                omega (arith, on_lt lone_gold s)
           ] in
           by u.piece.side (λ i. u.piece.side)),
     )

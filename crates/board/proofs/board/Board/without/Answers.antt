@@ -1,12 +1,11 @@
-use Rattle.std.proofs.Common.{◌≡◌, ℕ, ◌-◌, refl, ⊎_elim, arith}
-use Rattle.std.proofs.lemmas.Bool.{cases_eq}
+use Rattle.std.proofs.Common.{◌≡◌, refl, arith}
 use Rattle.bits.specs.Planes.{on}
 use Rattle.bits.proofs.Same.{on_lt}
 use Rattle.board.proofs.board.Board.without.Goals as goal
 
-pub invariant-of-result : goal.invariant-of-result
-invariant-of-result c = (
-  λ s.
+pub invariant_of-result : goal.invariant_of-result
+invariant_of-result c = record {
+  fitting = λ s.
       let b = c.args.self in
       let old = b.fitting s in
       let gone = on_lt c.args.squares s in
@@ -18,9 +17,8 @@ invariant-of-result c = (
       let f = c.minus-2.ensures s in
       let g = c.minus-3.ensures s in
       let h = c.minus-4.ensures s in
-      (omega arith, omega arith),
-  tt,
-)
+      (omega arith, omega arith);
+}
 
 pub returns : goal.returns
 returns c =

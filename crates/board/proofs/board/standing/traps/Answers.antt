@@ -1,4 +1,4 @@
-use Rattle.std.proofs.Common.{◌≡◌, sym, ◌∙◌}
+use Rattle.std.proofs.Common.{sym, ◌∙◌}
 use Rattle.board.proofs.Traps.{trap_digit, digit_trap}
 use Rattle.board.proofs.board.standing.traps.Goals as goal
 

@@ -1,9 +1,10 @@
-use Rattle.position.proofs.Words.{keys_decide, decided_same}
+use Rattle.std.proofs.lemmas.Bool.Decides.{same_from_decides}
+use Rattle.position.proofs.Words.{keys_decide}
 use Rattle.position.proofs.key.PositionKey.same.Goals as goal
 
 pub returns : goal.returns
 returns c =
     record {
-      value = decided_same c.eq.result _ c.eq.ensures.0 (keys_decide c.args.self.now c.args.other.now);
-      agreement = c.eq.ensures.1;
+      value = same_from_decides c.eq.result _ c.eq.ensures.same (keys_decide c.args.self.now c.args.other.now);
+      agreement = c.eq.ensures.agreement;
     }

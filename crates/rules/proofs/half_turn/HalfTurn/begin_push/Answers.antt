@@ -1,9 +1,9 @@
-use Rattle.std.proofs.Common.{◌≡◌, ℕ, ◌+◌, Bool, true, false, not, ◌&&◌, sym, ap, ◌∙◌, subst, ap₂}
+use Rattle.std.proofs.Common.{◌≡◌, ℕ, ◌+◌, not, sym, ap, ◌∙◌, subst, ap₂}
 use Rattle.std.proofs.lemmas.Result.{err_from_is_err_and}
 use Rattle.board.specs.Refusals.{refusal_number}
 use Rattle.rules.specs.Codes.{square}
 use Rattle.rules.specs.declared.pending.Pending.{Pending}
-use Rattle.rules.specs.HalfTurns.{Half, Open, opened, half_of}
+use Rattle.rules.specs.HalfTurns.{opened, half_of}
 use Rattle.rules.specs.HalfTurns.Half.{half}
 use Rattle.rules.specs.HalfTurns.Open.{push_open}
 use Rattle.rules.proofs.Alike.{turn_none, turn_first}
@@ -12,33 +12,33 @@ use Rattle.std.proofs.lemmas.Bool.Decides.{Decides-and, Decides-not}
 use Rattle.rules.proofs.Taking.{sure, decides_many, decides_closed, push_taken}
 use Rattle.rules.proofs.half_turn.HalfTurn.begin_push.Goals as goal
 
-pub returns-in-err-asked : goal.returns-in-err-asked
-returns-in-err-asked c =
+pub returns-in_err-asked : goal.returns-in_err-asked
+returns-in_err-asked c =
     let h = c.args.self in
     let o = opened h.pending in
-    let shut = c.is-push-open-open.ensures in
-    let r = c.is-push-open-open.result in
-    let p = err_from_is_err_and c.from-residual.result c.from-residual.ensures.1 in
+    let shut = c.is_push_open-open.ensures in
+    let r = c.is_push_open-open.result in
+    let p = err_from_is_err_and c.from_residual.result c.from_residual.ensures.1 in
     rw (p.1, p.2)
     (turn_first h.side h.board c.args.code (decides_many r o 2 h.steps shut)
-    (Decides-and (not r) (not c.begins-push.result) (decides_closed r o shut) (Decides-not c.begins-push.result c.begins-push.ensures)) shut
-    (refusal_number c.in-err-asked.field-0.0) c.in-err-asked.ensures)
+    (Decides-and (not r) (not c.begins_push.result) (decides_closed r o shut) (Decides-not c.begins_push.result c.begins_push.ensures)) shut
+    (refusal_number c.in_err-asked.field-0.0) c.in_err-asked.ensures)
 
 pub returns : goal.returns
 returns c =
     let h = c.args.self in
     let o = opened h.pending in
-    let r = c.is-push-open-open.result in
-    let shut = c.is-push-open-open.ensures in
-    let asked = c.in-ok-asked.asked in
-    let asks = c.in-ok-asked.ensures in
+    let r = c.is_push_open-open.result in
+    let shut = c.is_push_open-open.ensures in
+    let asked = c.in_ok-asked.asked in
+    let asks = c.in_ok-asked.ensures in
     let after = c.after.ensures in
     let none =
     turn_none h.side h.board c.args.code (decides_many r o 2 h.steps shut)
-    (Decides-and (not r) (not c.begins-push.result) (decides_closed r o shut) (Decides-not c.begins-push.result c.begins-push.ensures)) shut asks.0 in
+    (Decides-and (not r) (not c.begins_push.result) (decides_closed r o shut) (Decides-not c.begins_push.result c.begins_push.ensures)) shut asks.0 in
     let taken =
     push_taken h.side h.board c.after.result.board h.steps o c.args.code asked.piece asks.1.there (after.step c.args.code asks.1) none
-    (sure c.begins-push.result c.begins-push.ensures) in
+    (sure c.begins_push.result c.begins_push.ensures) in
     let is : half_of c.after.result ≡ half c.after.result.board (h.steps + 1) (push_open (square c.args.code) asked.piece.kind) =
     ap₂ (λ (n : ℕ) (q : Pending). half c.after.result.board n (opened q)) after.same.1 after.same.2
     ∙ ap (λ (s : ℕ). half c.after.result.board (h.steps + 1) (push_open s asked.piece.kind)) asks.1.stands in

@@ -1,7 +1,6 @@
-use Rattle.std.proofs.Common.{◌≡◌, ℕ, ◌<◌, true, false, sym, subst}
+use Rattle.std.proofs.Common.{ℕ, subst}
 use Rattle.std.proofs.lemmas.Bool.{false≢true}
 use Rattle.std.proofs.lemmas.Bool.Decides.{Decides-like}
-use Rattle.bits.specs.Squares.{Toward}
 use Rattle.board.proofs.Holding.{on_board}
 use Rattle.rules.specs.Actions.{CanPush}
 use Rattle.rules.proofs.Going.{toward_one}
@@ -13,9 +12,9 @@ returns-in-Some c =
     let b = c.args.self.board in
     let t = c.in-Some.place.number in
     let to = c.in-Some.ensures in
-    Decides-like c.can-push.result (λ a. (t, to, a))
+    Decides-like c.can_push.result (λ a. (t, to, a))
     (λ f. subst (λ (s : ℕ). CanPush side b s c.args.kind) (toward_one c.args.direction c.args.square.number f.0 t f.1 to) f.2)
-    c.can-push.ensures
+    c.can_push.ensures
 
 pub returns-in-None : goal.returns-in-None
 returns-in-None c = (

@@ -1,4 +1,4 @@
-use Rattle.std.proofs.Common.{◌≡◌, ℕ, ◌+◌, not, sym, subst, ap₂}
+use Rattle.std.proofs.Common.{◌≡◌, ℕ, ◌+◌, sym, subst, ap₂}
 use Rattle.std.proofs.lemmas.Result.{err_from_is_err_and}
 use Rattle.std.proofs.lemmas.Bool.Decides.{Decides-not}
 use Rattle.board.specs.Refusals.{refusal_number}
@@ -10,24 +10,24 @@ use Rattle.rules.proofs.Alike.{turn_none, turn_first}
 use Rattle.rules.proofs.Taking.{sure, never, after_taken}
 use Rattle.rules.proofs.half_turn.HalfTurn.finish_push.Goals as goal
 
-pub returns-in-err-asked : goal.returns-in-err-asked
-returns-in-err-asked c =
+pub returns-in_err-asked : goal.returns-in_err-asked
+returns-in_err-asked c =
     let h = c.args.self in
-    let p = err_from_is_err_and c.from-residual.result c.from-residual.ensures.1 in
+    let p = err_from_is_err_and c.from_residual.result c.from_residual.ensures.1 in
     rw (p.1, p.2)
-    (turn_first h.side h.board c.args.code never never (Decides-not c.finishes-push-unfinished.result c.finishes-push-unfinished.ensures)
-    (refusal_number c.in-err-asked.field-0.0) c.in-err-asked.ensures)
+    (turn_first h.side h.board c.args.code never never (Decides-not c.finishes_push-unfinished.result c.finishes_push-unfinished.ensures)
+    (refusal_number c.in_err-asked.field-0.0) c.in_err-asked.ensures)
 
 pub returns : goal.returns
 returns c =
     let h = c.args.self in
     let o = opened h.pending in
-    let asks = c.in-ok-asked.ensures in
+    let asks = c.in_ok-asked.ensures in
     let after = c.after.ensures in
-    let none = turn_none h.side h.board c.args.code never never (Decides-not c.finishes-push-unfinished.result c.finishes-push-unfinished.ensures) asks.0 in
+    let none = turn_none h.side h.board c.args.code never never (Decides-not c.finishes_push-unfinished.result c.finishes_push-unfinished.ensures) asks.0 in
     let taken =
-    after_taken h.side h.board c.after.result.board h.steps o c.args.code c.in-ok-asked.asked.piece asks.1.there
-    (after.step c.args.code asks.1) none (sure c.finishes-push-unfinished.result c.finishes-push-unfinished.ensures none.1.1.1.1.1.1.1.0) in
+    after_taken h.side h.board c.after.result.board h.steps o c.args.code c.in_ok-asked.asked.piece asks.1.there
+    (after.step c.args.code asks.1) none (sure c.finishes_push-unfinished.result c.finishes_push-unfinished.ensures none.1.1.1.1.1.1.1.0) in
     let is : half_of c.after.result ≡ half c.after.result.board (h.steps + 1) nothing =
     ap₂ (λ (n : ℕ) (q : Pending). half c.after.result.board n (opened q)) after.same.1 after.same.2 in
     (none, (after.same.0, subst (StepsAfter h.side (half_of h) c.args.code) (sym is) taken))

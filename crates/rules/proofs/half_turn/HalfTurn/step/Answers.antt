@@ -2,43 +2,42 @@ use Rattle.std.proofs.Common.{◌≡◌, ℕ, ◌+◌, sym, ap, ◌∙◌, subst
 use Rattle.std.proofs.lemmas.Result.{err_from_is_err_and}
 use Rattle.std.proofs.lemmas.Bool.Decides.{not_from_Decides}
 use Rattle.board.specs.Refusals.{refusal_number}
-use Rattle.rules.specs.Codes.{square}
 use Rattle.rules.specs.declared.pending.Pending.{Pending}
 use Rattle.rules.specs.HalfTurns.{opened, half_of}
 use Rattle.rules.specs.HalfTurns.Half.{half}
-use Rattle.rules.specs.HalfTurns.Open.{nothing, pull_possible}
+use Rattle.rules.specs.HalfTurns.Open.{pull_possible}
 use Rattle.rules.specs.Answers.{Steps}
 use Rattle.rules.proofs.Alike.{turn_none, turn_first}
 use Rattle.rules.proofs.Taking.{decides_many, decides_foreign, pull_taken, plain_taken}
 use Rattle.rules.proofs.half_turn.HalfTurn.step.Goals as goal
 use Rattle.rules.proofs.half_turn.HalfTurn.step.Goals.{then-pulled, else-pulled}
 
-pub returns-in-err-asked : goal.returns-in-err-asked
-returns-in-err-asked c =
+pub returns-in_err-asked : goal.returns-in_err-asked
+returns-in_err-asked c =
     let h = c.args.self in
     let o = opened h.pending in
-    let r = c.is-push-open-open.result in
-    let shut = c.is-push-open-open.ensures in
-    let p = err_from_is_err_and c.from-residual.result c.from-residual.ensures.1 in
+    let r = c.is_push_open-open.result in
+    let shut = c.is_push_open-open.ensures in
+    let p = err_from_is_err_and c.from_residual.result c.from_residual.ensures.1 in
     rw (p.1, p.2)
     (turn_first h.side h.board c.args.code (decides_many r o 3 h.steps shut)
-    (decides_foreign r c.moves-enemy.result c.ends-pull-pulled.result o shut c.moves-enemy.ensures c.ends-pull-pulled.ensures) shut
-    (refusal_number c.in-err-asked.field-0.0) c.in-err-asked.ensures)
+    (decides_foreign r c.moves_enemy.result c.ends_pull-pulled.result o shut c.moves_enemy.ensures c.ends_pull-pulled.ensures) shut
+    (refusal_number c.in_err-asked.field-0.0) c.in_err-asked.ensures)
 
 pub returns : goal.returns
 returns c =
     let h = c.args.self in
     let o = opened h.pending in
-    let r = c.is-push-open-open.result in
-    let shut = c.is-push-open-open.ensures in
-    let ends = c.ends-pull-pulled.ensures in
-    let asked = c.in-ok-asked.asked in
-    let asks = c.in-ok-asked.ensures in
+    let r = c.is_push_open-open.result in
+    let shut = c.is_push_open-open.ensures in
+    let ends = c.ends_pull-pulled.ensures in
+    let asked = c.in_ok-asked.asked in
+    let asks = c.in_ok-asked.ensures in
     let after = c.after.ensures in
     let b' = c.after.result.board in
     let none =
     turn_none h.side h.board c.args.code (decides_many r o 3 h.steps shut)
-    (decides_foreign r c.moves-enemy.result c.ends-pull-pulled.result o shut c.moves-enemy.ensures ends) shut asks.0 in
+    (decides_foreign r c.moves_enemy.result c.ends_pull-pulled.result o shut c.moves_enemy.ensures ends) shut asks.0 in
     let step = after.step c.args.code asks.1 in
     let is : (q : Pending) → c.if-pulled.pending ≡ q → half_of c.after.result ≡ half b' (h.steps + 1) (opened q) =
     λ q e. ap₂ (λ (n : ℕ) (q : Pending). half b' n (opened q)) after.same.1 (after.same.2 ∙ e) in
@@ -52,6 +51,6 @@ returns c =
           (sym (is _ w.pending-is ∙ ap (λ (s : ℕ). half b' (h.steps + 1) (pull_possible s asked.piece.kind)) asks.1.stands))
           (inl
           (plain_taken h.side h.board b' h.steps o c.args.code asked.piece asks.1.there step none
-          (not_from_Decides c.ends-pull-pulled.result ends w.if-pulled.false)))
+          (not_from_Decides c.ends_pull-pulled.result ends w.if-pulled.false)))
     ] in
     (none, (after.same.0, way))

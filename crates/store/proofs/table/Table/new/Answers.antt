@@ -5,8 +5,8 @@ use Rattle.store.proofs.table.Table.new.Goals as goal
 pub loop-slot-preserved : goal.loop-slot-preserved
 loop-slot-preserved g c = free_more c.loop-slot.nodes c.loop-slot.slot-index (omega arith) c.loop-slot.invariant
 
-pub invariant-of-result : goal.invariant-of-result
-invariant-of-result g c = (free_marked 0 c.loop-slot.nodes (λ i l. c.loop-slot.invariant i (omega arith)), tt)
+pub invariant_of-result : goal.invariant_of-result
+invariant_of-result g c = record { marks = free_marked 0 c.loop-slot.nodes (λ i l. c.loop-slot.invariant i (omega arith)) }
 
 pub returns : goal.returns
 returns g c =

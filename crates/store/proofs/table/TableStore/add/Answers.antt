@@ -10,11 +10,11 @@ returns-then-count g c ok =
     let cs = cells c.args.self.now.generation c.args.self.now.nodes.now in
     (ok, (met_count g.K.Key.equals cs c.args.self.now.held ok.holding (length c.args.self.now.nodes.now) c.args.key _ _ c.in-At.ensures ∙ c.if-count.true, kept_same _))
 
-pub invariant-of-self : goal.invariant-of-self
-invariant-of-self g c = (set_marked _ c.args.self.now.nodes.now _ _ c.in-At.ensures.inside (omega arith) c.args.self.now.marks, tt)
+pub invariant_of-self : goal.invariant_of-self
+invariant_of-self g c = (set_marked _ c.args.self.now.nodes.now _ _ c.in-At.ensures.inside (omega arith) c.args.self.now.marks, tt)
 
-pub invariant-of-self-in-Open : goal.invariant-of-self-in-Open
-invariant-of-self-in-Open g c = (set_marked _ c.args.self.now.nodes.now _ _ c.in-Open.ensures.inside (omega arith) c.args.self.now.marks, tt)
+pub invariant_of-self-in-Open : goal.invariant_of-self-in-Open
+invariant_of-self-in-Open g c = (set_marked _ c.args.self.now.nodes.now _ _ c.in-Open.ensures.inside (omega arith) c.args.self.now.marks, tt)
 
 pub returns-else-count : goal.returns-else-count
 returns-else-count g c ok =

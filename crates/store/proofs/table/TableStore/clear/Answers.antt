@@ -6,16 +6,16 @@ use Rattle.store.specs.Probes.{cells, Sound}
 use Rattle.store.proofs.Probes.{free_more, free_marked, free_vacant, next_vacant, set_marked, emptied}
 use Rattle.store.proofs.table.TableStore.clear.Goals as goal
 
-pub invariant-of-self : goal.invariant-of-self
-invariant-of-self g c = (λ i. omega (arith, c.args.self.now.marks i), tt)
+pub invariant_of-self : goal.invariant_of-self
+invariant_of-self g c = record { marks = λ i. omega (arith, c.args.self.now.marks i) }
 
 pub returns-then-self-lt4294967295 : goal.returns-then-self-lt4294967295
 returns-then-self-lt4294967295 g c =
     emptied g.K.Key.equals g.K.SpreadKey.spreads _ _ _ refl
     (next_vacant _ c.args.self.now.generation c.args.self.now.nodes.now c.args.self.now.marks (omega arith))
 
-pub invariant-of-self-in-loop-i : goal.invariant-of-self-in-loop-i
-invariant-of-self-in-loop-i g c =
+pub invariant_of-self-in-loop-i : goal.invariant_of-self-in-loop-i
+invariant_of-self-in-loop-i g c =
     (set_marked _ c.loop-i.self.nodes.now _ _ (omega (arith, c.loop-i.invariant.1)) (omega arith) c.loop-i.self.marks, tt)
 
 pub loop-i-preserved : goal.loop-i-preserved
@@ -23,8 +23,8 @@ loop-i-preserved g c =
     let inv = c.loop-i.invariant in
     (inv.0, length-set _ _ _ ∙ inv.1, free_more c.loop-i.self.nodes.now c.loop-i.i (omega (arith, inv.1)) inv.2)
 
-pub invariant-of-self-2 : goal.invariant-of-self-2
-invariant-of-self-2 g c = (free_marked 0 c.loop-i.self.nodes.now (λ i l. c.loop-i.invariant.2 i (omega (arith, c.loop-i.invariant.1))), tt)
+pub invariant_of-self-2 : goal.invariant_of-self-2
+invariant_of-self-2 g c = record { marks = free_marked 0 c.loop-i.self.nodes.now (λ i l. c.loop-i.invariant.2 i (omega (arith, c.loop-i.invariant.1))) }
 
 pub returns : goal.returns
 returns g c =

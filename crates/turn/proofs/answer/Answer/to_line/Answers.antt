@@ -5,7 +5,7 @@ use Rattle.turn.proofs.answer.Answer.to_line.Goals as goal
 
 pub returns-in-Some : goal.returns-in-Some
 returns-in-Some c =
-    told (subst (ReadAs c.args.line.now) c.in-Some.is c.in-ok-task.ensures) c.to-task.ensures
+    told (subst (ReadAs c.args.line.now) c.in-Some.is c.in_ok-task.ensures) c.to_task.ensures
 
 pub returns-in-None : goal.returns-in-None
-returns-in-None c = unread (subst (ReadAs c.args.line.now) c.in-None.is c.in-ok-task.ensures)
+returns-in-None c = unread (subst (ReadAs c.args.line.now) c.in-None.is c.in_ok-task.ensures)

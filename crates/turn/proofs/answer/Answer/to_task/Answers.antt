@@ -9,7 +9,7 @@ pub returns-in-Start : goal.returns-in-Start
 returns-in-Start c =
     let at = c.in-Ok.position
     in let read = c.in-Ok.ensures.exact
-    in (at, record { taken = read.0; shows = read.1; moves = read.2 }, sym c.as-slice.ensures.value ∙ c.in-Start.ensures.exact, refl)
+    in (at, record { taken = read.0; shows = read.1; moves = read.2 }, sym c.as_slice.ensures.value ∙ c.in-Start.ensures.exact, refl)
 
 pub returns-in-Whole : goal.returns-in-Whole
 returns-in-Whole c =
@@ -18,7 +18,7 @@ returns-in-Whole c =
     in (
       at,
       record { taken = read.0; shows = read.1; moves = read.2 },
-      subst (λ cs. Turn at.side at.board cs c.in-Whole.board) c.as-slice.ensures.value c.in-Whole.ensures.exact,
+      subst (λ cs. Turn at.side at.board cs c.in-Whole.board) c.as_slice.ensures.value c.in-Whole.ensures.exact,
     )
 
 pub returns-in-Half : goal.returns-in-Half
@@ -28,7 +28,7 @@ returns-in-Half c =
     in (
       at,
       record { taken = read.0; shows = read.1; moves = read.2 },
-      subst (λ cs. Plays at.side at.board cs (Half c.in-Half.board)) c.as-slice.ensures.value c.in-Half.ensures.exact,
+      subst (λ cs. Plays at.side at.board cs (Half c.in-Half.board)) c.as_slice.ensures.value c.in-Half.ensures.exact,
     )
 
 pub returns-in-Refused : goal.returns-in-Refused
@@ -38,5 +38,5 @@ returns-in-Refused c =
     in (
       at,
       record { taken = read.0; shows = read.1; moves = read.2 },
-      subst (λ cs. Plays at.side at.board cs (Refused c.in-Refused.at c.in-Refused.why)) c.as-slice.ensures.value c.in-Refused.ensures.exact,
+      subst (λ cs. Plays at.side at.board cs (Refused c.in-Refused.at c.in-Refused.why)) c.as_slice.ensures.value c.in-Refused.ensures.exact,
     )
