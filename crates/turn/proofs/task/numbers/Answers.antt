@@ -1,4 +1,4 @@
-use Rattle.std.proofs.Common.{◌≡◌, [], ◌∷◌, vec_items, sym, subst, append_assoc, append-nil}
+use Rattle.std.proofs.Common.{[], ◌∷◌, vec_items, sym, subst, append_assoc, append-nil}
 use Rattle.text.specs.Numerals.{Numerals}
 use Rattle.text.specs.Fields.{to_come}
 use Rattle.text.proofs.Spelling.{first_spelled, spelled_first}

@@ -1,8 +1,7 @@
-use Rattle.std.proofs.Common.{◌≡◌, sym, refl, ◌∙◌, subst}
+use Rattle.std.proofs.Common.{sym, refl, ◌∙◌, subst}
 use Rattle.rules.specs.declared.playing.Played.TheVariants.{Half, Refused}
 use Rattle.rules.specs.Actions.{Turn}
 use Rattle.rules.specs.Played.{Plays}
-use Rattle.turn.specs.Judging.{Shown}
 use Rattle.turn.proofs.answer.Answer.to_task.Goals as goal
 
 pub returns-in-Start : goal.returns-in-Start
