@@ -3,4 +3,3 @@ pub mod Same
 pub mod Traps
 pub mod Lone
 pub mod Reading
-pub mod Told

@@ -8,7 +8,7 @@ use Rattle.board.proofs.Same.{planes_decide, words_same}
 use Rattle.position.specs.Equality.{same_position}
 use Rattle.keys.specs.Words.{same_words}
 use Rattle.keys.proofs.Words.{words_self, words_is}
-use Rattle.position.specs.declared.Position.{Position}
+use Rattle.position.specs.declared.position.Position.{Position}
 use Rattle.position.specs.Words.{position_words, ranked_words}
 
 side_same : (a b : Side) → side_number a ≡ side_number b → a ≡ b

@@ -3,7 +3,7 @@ use Rattle.std.specs.Prelude.{Bool, ◌==◌}
 use Rattle.std.specs.Ordering.{eq_of_both, on as by}
 use Rattle.board.specs.Pieces.{side_number}
 use Rattle.board.specs.Cells.{same_planes}
-use Rattle.position.specs.declared.Position.{Position}
+use Rattle.position.specs.declared.position.Position.{Position}
 
 -- the sides' numbers and the boards' planes are the same
 abbrev pub same_position : Position → Position → Bool

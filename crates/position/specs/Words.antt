@@ -1,6 +1,6 @@
 -- The words of a position, and how they are mixed.
 use Rattle.std.specs.Prelude.{ℕ, ◌+◌, ◌-◌, ◌*◌, ◌/◌, ◌%◌, ◌^◌, List, ◌∷◌, bit_or, bit_xor, slice_index}
-use Rattle.position.specs.declared.Position.{Position}
+use Rattle.position.specs.declared.position.Position.{Position}
 use Rattle.board.specs.Pieces.{side_number}
 use Rattle.board.specs.Cells.{words_of}
 

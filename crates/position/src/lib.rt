@@ -1,14 +1,7 @@
 // Positions, and positions as keys of stores.
 #![tactic(auto)]
 
-use board::{Board, Side};
-
 mod key;
-mod reading;
+mod position;
 
-/// A board and the side to move.
-#[derive(Clone, Copy)]
-pub struct Position {
-    pub board: Board,
-    pub side: Side,
-}
+pub use position::Position;

@@ -1,6 +1,6 @@
 -- What a task is answered, and what a line.
 use Rattle.std.specs.Prelude.{◌≡◌, ℕ, List, []}
-use Rattle.position.specs.declared.Position.{Position}
+use Rattle.position.specs.declared.position.Position.{Position}
 use Rattle.board.specs.Pieces.{side_number}
 use Rattle.board.specs.Refusals.{refusal_number, NoneHits, FirstHit}
 use Rattle.board.specs.Reading.{Shows, position_checks}

@@ -13,8 +13,8 @@ use Rattle.board.specs.Counts.{count_of}
 use Rattle.board.specs.Standing.{Unsupported}
 use Rattle.board.specs.Reading.{Shows}
 use Rattle.board.proofs.Reading.{shows_one}
-use Rattle.position.proofs.Position.from_letters.Goals as goal
-use Rattle.position.proofs.Position.from_letters.Goals.{
+use Rattle.position.proofs.position.Position.from_letters.Goals as goal
+use Rattle.position.proofs.position.Position.from_letters.Goals.{
   then-exceeds_full_set-via-then-exceeds_full_set,
   then-exceeds_full_set-via-else-exceeds_full_set+then-exceeds_full_set-2,
 }

@@ -1,9 +1,9 @@
 use Rattle.std.proofs.Common.{◌≡◌, ◌&&◌, Decides, ap, rules}
 use Rattle.std.proofs.lemmas.Bool.Decides.{Decides-and, Decides-like, same_from_decides}
-use Rattle.position.specs.declared.Position.{Position}
+use Rattle.position.specs.declared.position.Position.{Position}
 use Rattle.position.specs.Equality.{same_position}
 use Rattle.position.proofs.Words.{position_decide}
-use Rattle.position.proofs.reading.PositionPartialEq.eq.Goals as goal
+use Rattle.position.proofs.position.PositionPartialEq.eq.Goals as goal
 
 pub returns : goal.returns
 returns c =

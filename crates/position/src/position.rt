@@ -1,4 +1,4 @@
-// Positions read from letters, and their equality.
+// A position: a board and the side to move.
 ghost use Rattle.std.specs.Prelude.{◌≡◌, IfOk, Decides, MatchResult};
 ghost use Rattle.board.specs.Pieces.{side_number};
 ghost use Rattle.board.specs.Cells.{SameSquares};
@@ -9,8 +9,13 @@ ghost use Rattle.position.specs.Equality.{same_position};
 ghost use Rattle.std.specs.Cmp.Rules.{comparing};
 ghost use Rattle.std.proofs.Common.{rules};
 
-use crate::Position;
 use board::{Board, Refusal, Side};
+
+#[derive(Clone, Copy)]
+pub struct Position {
+    pub board: Board,
+    pub side: Side,
+}
 
 impl Position {
     /// The position that 64 letters show, in the order of the squares, with the side of that number to move.
