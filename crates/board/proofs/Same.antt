@@ -9,7 +9,7 @@ use Rattle.bits.proofs.Same.{on_lt, plane_by_word, plane_same}
 use Rattle.board.specs.declared.pieces.Side.TheVariants.{Gold}
 use Rattle.board.specs.declared.board.Board.{Board}
 use Rattle.board.specs.Planes.{Fitting}
-use Rattle.board.specs.Cells.{words_of, same_planes, SameSquares}
+use Rattle.board.specs.Cells.{cell, words_of, same_planes, SameSquares}
 use Rattle.board.specs.Counts.{of_side, strength_in}
 use Rattle.board.proofs.Holding.{strength_law, gold_law}
 
@@ -47,3 +47,7 @@ board_same b d e =
   where
     digits : (s : ℕ) → s < 64 → on b.ones s + 2 * on b.twos s + 4 * on b.fours s ≡ on d.ones s + 2 * on d.twos s + 4 * on d.fours s
     digits s h = strength_law b s ∙ (ap strength_in (e s h) ∙ sym (strength_law d s))
+
+-- and whether they have the same on every square
+pub squares_decide : (b d : Board) → Decides (same_planes b d) (SameSquares b d)
+squares_decide b d = Decides-like (same_planes b d) (λ e s h. ap (λ (x : Board). cell x s) e) (board_same b d) (planes_decide b d)

@@ -1,8 +1,8 @@
-use Rattle.std.proofs.Common.{◌≡◌, ◌&&◌, Decides, ap, rules}
-use Rattle.std.proofs.lemmas.Bool.Decides.{Decides-and, Decides-like, same_from_decides}
-use Rattle.position.specs.declared.position.Position.{Position}
+use Rattle.std.proofs.Common.{◌≡◌, ◌&&◌, ◌==◌, Decides, rules}
+use Rattle.std.proofs.lemmas.Bool.Decides.{Decides-at, same_from_decides}
+use Rattle.board.specs.Pieces.{side_number}
 use Rattle.position.specs.Equality.{same_position}
-use Rattle.position.proofs.Words.{position_decide}
+use Rattle.position.proofs.Words.{sides_decide, position_decide, agreement_decide}
 use Rattle.position.proofs.position.PositionPartialEq.eq.Goals as goal
 
 pub returns : goal.returns
@@ -11,11 +11,10 @@ returns c =
     let q = c.args.other.now in
     let r = c.eq.result && c.eq-2.result in
     let side : Decides c.eq.result (p.side ≡ q.side) = search rules in
-    let same : Decides r (p ≡ q) =
-    Decides-like r (λ e. λ i. record { board = e.1 i; side = e.0 i }) (λ e. (ap (λ (x : Position). x.side) e, ap (λ (x : Position). x.board) e))
-    (Decides-and c.eq.result c.eq-2.result side c.eq-2.ensures.same) in
+    let sides : c.eq.result ≡ (side_number p.side == side_number q.side) = same_from_decides c.eq.result _ side (sides_decide p.side q.side) in
+    let value : r ≡ same_position p q = cc in
     record {
-      value = same_from_decides r (same_position p q) same (position_decide p q);
-      same = same;
-      agreement = Decides-like r (λ e. (e.1, e.0)) (λ e. (e.1, e.0)) (Decides-and c.eq.result c.eq-2.result side c.eq-2.ensures.same_squares);
+      value = value;
+      same = Decides-at r (same_position p q) value (position_decide p q);
+      agreement = Decides-at r (same_position p q) value (agreement_decide p q);
     }
