@@ -1,5 +1,7 @@
 pub mod Going
 pub mod Pieces
+pub mod Standing
+pub mod Pushers
 pub mod Opens
 pub mod Decided
 pub mod Simulation

@@ -1,46 +1,54 @@
 // What a code's step would be: the one text that says what ends a pull, begins a push and finishes one.
-ghost use Rattle.std.specs.Prelude.{ℕ, Decides};
-ghost use Rattle.bits.specs.Squares.{Toward};
+ghost use Rattle.std.specs.Prelude.{Decides, MatchOption};
 ghost use Rattle.board.specs.declared.pieces.Piece.{Piece as PieceT};
 ghost use Rattle.rules.specs.Codes.{square, Goes};
-ghost use Rattle.rules.specs.Steps.{Enemy};
+ghost use Rattle.rules.specs.Steps.{Own, Enemy};
 ghost use Rattle.rules.specs.Actions.{CanPush, Pusher, BeginsPush};
 ghost use Rattle.rules.specs.HalfTurns.{NoPush, opened, Ends, Finishes};
 
 use super::HalfTurn;
 use crate::Pending;
 use crate::codes::{direction_of, square_of};
-use bits::{Direction, Square};
-use board::Kind;
+use bits::Square;
+use board::{Kind, Piece};
 
 /// Whether the code's step goes to the square.
 fn goes_to(code: u8, target: Square) -> bool
     ensures { Decides result (Goes code target.number) }
 {
-    match square_of(code).toward(direction_of(code)) {
-        Some(to) => to == target,
-        None => false,
-    }
+    square_of(code).toward(direction_of(code)) == Some(target)
 }
 
 impl HalfTurn {
     pub fn is_push_open(self) -> bool
         ensures { Decides result (NoPush (opened self.pending) → ⊥) }
     {
-        match self.pending {
-            Pending::Push(_, _) => true,
-            _ => false,
-        }
+        matches!(self.pending, Pending::Push(_, _))
+    }
+
+    /// The own piece on the square, if there is one.
+    fn own_at(self, square: Square) -> Option<Piece>
+        ensures { MatchOption result ((p : PieceT) → Own self.side self.board square.number p → ⊥) (Own self.side self.board square.number) }
+    {
+        self.board
+            .at(square)
+            .filter(|piece| piece.side == self.side)
+    }
+
+    /// The enemy piece on the square, if there is one.
+    fn enemy_at(self, square: Square) -> Option<Piece>
+        ensures { MatchOption result ((p : PieceT) → Enemy self.side self.board square.number p → ⊥) (Enemy self.side self.board square.number) }
+    {
+        self.board
+            .at(square)
+            .filter(|piece| piece.side == self.side.other())
     }
 
     /// Whether the code's square holds an enemy piece.
     pub(super) fn moves_enemy(self, code: u8) -> bool
         ensures { Decides result ((p : PieceT) × Enemy self.side self.board (square code) p) }
     {
-        match self.board.at(square_of(code)) {
-            Some(piece) => piece.side == self.side.other(),
-            None => false,
-        }
+        self.enemy_at(square_of(code)).is_some()
     }
 
     /// The pull test: whether the code's step ends the pull that is possible. The puller may be gone.
@@ -50,14 +58,8 @@ impl HalfTurn {
         let Pending::Pull(left, puller) = self.pending else {
             return false;
         };
-        match self.board.at(square_of(code)) {
-            Some(piece) => {
-                piece.side == self.side.other()
-                    && puller.is_stronger(piece.kind)
-                    && goes_to(code, left)
-            }
-            None => false,
-        }
+        self.enemy_at(square_of(code)).is_some_and(|piece| puller.is_stronger(piece.kind)
+            && goes_to(code, left))
     }
 
     /// Whether the code's step finishes the push that is open.
@@ -67,45 +69,27 @@ impl HalfTurn {
         let Pending::Push(left, pushed) = self.pending else {
             return false;
         };
-        match self.board.at(square_of(code)) {
-            Some(piece) => {
-                piece.side == self.side && piece.kind.is_stronger(pushed) && goes_to(code, left)
-            }
-            None => false,
-        }
+        self.own_at(square_of(code)).is_some_and(|piece| piece.kind.is_stronger(pushed)
+            && goes_to(code, left))
     }
 
     /// Whether the square has an own piece that is stronger than the kind and isn't frozen.
     fn can_push(self, place: Square, kind: Kind) -> bool
         ensures { Decides result (CanPush self.side self.board place.number kind) }
     {
-        match self.board.at(place) {
-            Some(piece) => {
-                (piece.side == self.side)
-                    & piece.kind.is_stronger(kind)
-                    & !self.board.is_frozen(place)
-            }
-            None => false,
-        }
+        self.own_at(place)
+            .is_some_and(|piece| piece.kind.is_stronger(kind))
+            && !self.board.is_frozen(place)
     }
 
-    /// The same of the next square in a direction.
-    fn can_push_from(self, square: Square, direction: Direction, kind: Kind) -> bool
-        ensures { Decides result ((t : ℕ) × Toward direction square.number t × CanPush self.side self.board t kind) }
-    {
-        match square.toward(direction) {
-            Some(place) => self.can_push(place, kind),
-            None => false,
-        }
-    }
-
+    /// Whether such a piece stands next to the square.
     fn has_pusher(self, square: Square, kind: Kind) -> bool
         ensures { Decides result (Pusher self.side self.board square.number kind) }
     {
-        self.can_push_from(square, Direction::North, kind)
-            | self.can_push_from(square, Direction::East, kind)
-            | self.can_push_from(square, Direction::South, kind)
-            | self.can_push_from(square, Direction::West, kind)
+        square
+            .neighbours()
+            .squares()
+            .any(|place| self.can_push(place, kind))
     }
 
     /// Whether the code's step begins a push: an enemy piece with a stronger own piece next to it that isn't frozen.
@@ -113,9 +97,7 @@ impl HalfTurn {
         ensures { Decides result (BeginsPush self.side self.board code) }
     {
         let from = square_of(code);
-        match self.board.at(from) {
-            Some(piece) => piece.side == self.side.other() && self.has_pusher(from, piece.kind),
-            None => false,
-        }
+        self.enemy_at(from)
+            .is_some_and(|piece| self.has_pusher(from, piece.kind))
     }
 }
