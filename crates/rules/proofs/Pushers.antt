@@ -1,6 +1,5 @@
 -- The pieces next to a square that can push, by the squares of its neighbours.
-use Rattle.std.proofs.Common.{◌≡◌, ℕ, zero, suc, ◌+◌, ◌<◌, ◌≤◌, ◌≢◌, Bool, true, List, [], ◌∷◌, length, get_or, Option, MatchOption, Decides, MatchBool, refl, sym, ap, ◌∙◌, arith}
-use mathlib.Core.Logic.Dec
+use Rattle.std.proofs.Common.{◌≡◌, ℕ, zero, suc, ◌+◌, ◌<◌, ◌≤◌, ◌≢◌, Bool, true, [], ◌∷◌, length, get_or, Option, MatchOption, Decides, MatchBool, refl, sym, ap, ◌∙◌, arith}
 use native.Mathlib.Decide.{ℕ_discrete}
 use Rattle.std.specs.List.{All, AllWithin, HoldsAt, Contains}
 use Rattle.std.proofs.lemmas.Bool.Decides.{when_true}

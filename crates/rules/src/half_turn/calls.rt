@@ -5,6 +5,7 @@ ghost use Rattle.rules.specs.Checks.{step_checks, begin_checks, finish_checks, r
 ghost use Rattle.rules.specs.Answers.{Answers, GoesOn, Steps};
 
 use super::HalfTurn;
+use super::checks::CallChecks;
 use crate::Pending;
 use board::{Board, Refusal, Side};
 use position::Position;
@@ -54,15 +55,19 @@ impl HalfTurn {
     pub fn step(self, code: u8) -> Result<HalfTurn, Refusal>
         ensures { Answers (step_checks self.side (half_of self) code) (GoesOn Steps self code) result }
     {
-        let open = self.is_push_open();
-        let pulled = self.ends_pull(code);
-        let many = !open & (self.steps >= 4);
-        let neither = !open & (self.moves_enemy(code) & !pulled);
-        let asked = self.checked(code, many, neither, open)?;
-        let pending = if pulled {
+        let call = CallChecks {
+            steps_made: self.has_made(4),
+            no_push_or_pull: self.is_foreign(code),
+            unfinished_push: self.is_push_open(),
+        };
+        let asked = self.checked(code, call)?;
+        let pending = if self.ends_pull(code) {
             Pending::Nothing
         } else {
-            Pending::Pull(asked.from, asked.piece.kind)
+            Pending::Pull {
+                left: asked.from,
+                puller: asked.piece.kind,
+            }
         };
         Ok(self.after(asked, pending))
     }
@@ -72,18 +77,30 @@ impl HalfTurn {
         ensures { Answers (begin_checks self.side (half_of self) code) (GoesOn StepsPush self code) result }
     {
         let open = self.is_push_open();
-        let many = !open & (self.steps >= 3);
-        let neither = !open & !self.begins_push(code);
-        let asked = self.checked(code, many, neither, open)?;
-        Ok(self.after(asked, Pending::Push(asked.from, asked.piece.kind)))
+        let begins = self.begins_push(code);
+        let call = CallChecks {
+            steps_made: self.has_made(3),
+            no_push_or_pull: !open && !begins,
+            unfinished_push: open,
+        };
+        let asked = self.checked(code, call)?;
+        let pending = Pending::Push {
+            left: asked.from,
+            pushed: asked.piece.kind,
+        };
+        Ok(self.after(asked, pending))
     }
 
     /// The second half of a push.
     pub fn finish_push(self, code: u8) -> Result<HalfTurn, Refusal>
         ensures { Answers (finish_checks self.side (half_of self) code) (GoesOn StepsAfter self code) result }
     {
-        let unfinished = !self.finishes_push(code);
-        let asked = self.checked(code, false, false, unfinished)?;
+        let call = CallChecks {
+            steps_made: false,
+            no_push_or_pull: false,
+            unfinished_push: !self.finishes_push(code),
+        };
+        let asked = self.checked(code, call)?;
         Ok(self.after(asked, Pending::Nothing))
     }
 
@@ -94,7 +111,7 @@ impl HalfTurn {
     {
         if self.is_push_open() {
             self.finish_push(code)
-        } else if self.moves_enemy(code) & !self.ends_pull(code) {
+        } else if self.is_foreign(code) {
             self.begin_push(code)
         } else {
             self.step(code)

@@ -1,10 +1,11 @@
 // What a code's step would be: the one text that says what ends a pull, begins a push and finishes one.
-ghost use Rattle.std.specs.Prelude.{Decides, MatchOption};
+ghost use Rattle.std.specs.Prelude.{◌≤◌, Decides, MatchOption};
 ghost use Rattle.board.specs.declared.pieces.Piece.{Piece as PieceT};
 ghost use Rattle.rules.specs.Codes.{square, Goes};
 ghost use Rattle.rules.specs.Steps.{Own, Enemy};
 ghost use Rattle.rules.specs.Actions.{CanPush, Pusher, BeginsPush};
-ghost use Rattle.rules.specs.HalfTurns.{NoPush, opened, Ends, Finishes};
+ghost use Rattle.rules.specs.HalfTurns.{half_of, NoPush, opened, Ends, Finishes};
+ghost use Rattle.rules.specs.Checks.{Foreign};
 
 use super::HalfTurn;
 use crate::Pending;
@@ -23,7 +24,14 @@ impl HalfTurn {
     pub fn is_push_open(self) -> bool
         ensures { Decides result (NoPush (opened self.pending) → ⊥) }
     {
-        matches!(self.pending, Pending::Push(_, _))
+        matches!(self.pending, Pending::Push { .. })
+    }
+
+    /// Whether so many steps are made, with no push open.
+    pub(super) fn has_made(self, steps: u8) -> bool
+        ensures { Decides result (NoPush (opened self.pending) × (steps ≤ self.steps)) }
+    {
+        !self.is_push_open() && self.steps >= steps
     }
 
     /// The own piece on the square, if there is one.
@@ -55,18 +63,25 @@ impl HalfTurn {
     pub(super) fn ends_pull(self, code: u8) -> bool
         ensures { Decides result (Ends self.side (opened self.pending) self.board code) }
     {
-        let Pending::Pull(left, puller) = self.pending else {
+        let Pending::Pull { left, puller } = self.pending else {
             return false;
         };
         self.enemy_at(square_of(code)).is_some_and(|piece| puller.is_stronger(piece.kind)
             && goes_to(code, left))
     }
 
+    /// Whether the code's step, with no push open, moves an enemy piece and ends no pull.
+    pub(super) fn is_foreign(self, code: u8) -> bool
+        ensures { Decides result (NoPush (opened self.pending) × Foreign self.side (half_of self) code) }
+    {
+        !self.is_push_open() && self.moves_enemy(code) && !self.ends_pull(code)
+    }
+
     /// Whether the code's step finishes the push that is open.
     pub(super) fn finishes_push(self, code: u8) -> bool
         ensures { Decides result (Finishes self.side (opened self.pending) self.board code) }
     {
-        let Pending::Push(left, pushed) = self.pending else {
+        let Pending::Push { left, pushed } = self.pending else {
             return false;
         };
         self.own_at(square_of(code)).is_some_and(|piece| piece.kind.is_stronger(pushed)

@@ -1,6 +1,5 @@
 use Rattle.std.proofs.Common.{rules, not}
 use Rattle.std.proofs.lemmas.Bool.Decides.{Decides-like, Decides-not}
-use Rattle.board.specs.declared.pieces.Piece.{Piece}
 use Rattle.board.specs.Pieces.{Stronger}
 use Rattle.rules.proofs.Standing.{own_tested}
 use Rattle.rules.proofs.half_turn.HalfTurn.can_push.Goals as goal

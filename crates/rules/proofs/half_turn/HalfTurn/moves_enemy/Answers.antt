@@ -1,5 +1,3 @@
-use Rattle.std.proofs.Common.{arith}
-use Rattle.std.proofs.lemmas.Grind.{common_steps}
 use Rattle.rules.proofs.Standing.{enemy_some}
 use Rattle.rules.proofs.half_turn.HalfTurn.moves_enemy.Goals as goal
 
