@@ -17,4 +17,5 @@ pub mod Passing
 pub mod Alike
 pub mod Taking
 pub mod Reading
+pub mod Mapped
 pub mod Running

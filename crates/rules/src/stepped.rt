@@ -23,8 +23,7 @@ fn unsupported_piece(board: Board) -> Option<(Square, Piece)>
     ensures { Tells board result }
 {
     let square = board.unsupported().lowest()?;
-    let piece = board.at(square)?;
-    Some((square, piece))
+    Some((square, board.at(square)?))
 }
 
 /// The board after the piece of one square went to another, with what is then unsupported taken away.
