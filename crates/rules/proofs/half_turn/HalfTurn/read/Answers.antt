@@ -1,6 +1,3 @@
-use Rattle.std.proofs.lemmas.Bool.Decides.{not_from_Decides}
-use Rattle.rules.specs.HalfTurns.{opened}
-use Rattle.rules.proofs.Taking.{closed}
 use Rattle.rules.proofs.Reading.{reads_finish, reads_begin, reads_step}
 use Rattle.rules.proofs.half_turn.HalfTurn.read.Goals as goal
 
@@ -15,6 +12,5 @@ returns-then-is_foreign c =
 
 pub returns-else-is_foreign : goal.returns-else-is_foreign
 returns-else-is_foreign c =
-    let h = c.args.self in
-    let idle = closed (opened h.pending) (not_from_Decides c.is_push_open.result c.is_push_open.ensures c.if-is_push_open.false) in
-    reads_step h c.args.code c.step.result idle (λ f. not_from_Decides c.is_foreign.result c.is_foreign.ensures c.if-is_foreign.false (idle, f)) c.step.ensures
+    reads_step c.args.self c.args.code c.step.result c.is_push_open.result c.is_foreign.result c.if-is_push_open.false c.if-is_foreign.false
+    c.is_push_open.ensures c.is_foreign.ensures c.step.ensures
