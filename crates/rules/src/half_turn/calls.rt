@@ -6,7 +6,7 @@ ghost use Rattle.rules.specs.Answers.{Answers, GoesOn, Steps};
 
 use super::HalfTurn;
 use super::checks::CallChecks;
-use crate::Pending;
+use crate::{Pending, StepCode};
 use board::{Board, Refusal, Side};
 use position::Position;
 
@@ -52,8 +52,8 @@ impl HalfTurn {
     }
 
     /// A plain step, or the second half of a pull.
-    pub fn step(self, code: u8) -> Result<HalfTurn, Refusal>
-        ensures { Answers (step_checks self.side (half_of self) code) (GoesOn Steps self code) result }
+    pub fn step(self, code: StepCode) -> Result<HalfTurn, Refusal>
+        ensures { Answers (step_checks self.side (half_of self) code.number) (GoesOn Steps self code.number) result }
     {
         let call = CallChecks {
             steps_made: self.has_made(4),
@@ -73,8 +73,8 @@ impl HalfTurn {
     }
 
     /// The first half of a push.
-    pub fn begin_push(self, code: u8) -> Result<HalfTurn, Refusal>
-        ensures { Answers (begin_checks self.side (half_of self) code) (GoesOn StepsPush self code) result }
+    pub fn begin_push(self, code: StepCode) -> Result<HalfTurn, Refusal>
+        ensures { Answers (begin_checks self.side (half_of self) code.number) (GoesOn StepsPush self code.number) result }
     {
         let open = self.is_push_open();
         let begins = self.begins_push(code);
@@ -92,8 +92,8 @@ impl HalfTurn {
     }
 
     /// The second half of a push.
-    pub fn finish_push(self, code: u8) -> Result<HalfTurn, Refusal>
-        ensures { Answers (finish_checks self.side (half_of self) code) (GoesOn StepsAfter self code) result }
+    pub fn finish_push(self, code: StepCode) -> Result<HalfTurn, Refusal>
+        ensures { Answers (finish_checks self.side (half_of self) code.number) (GoesOn StepsAfter self code.number) result }
     {
         let call = CallChecks {
             steps_made: false,
@@ -106,8 +106,8 @@ impl HalfTurn {
 
     /// A step as a line of a record has it: with a push open it finishes that; an enemy step that can end a pull is
     /// that, and any other begins a push.
-    pub fn read(self, code: u8) -> Result<HalfTurn, Refusal>
-        ensures { Answers (read_checks self.side (half_of self) code) (GoesOn Takes self code) result }
+    pub fn read(self, code: StepCode) -> Result<HalfTurn, Refusal>
+        ensures { Answers (read_checks self.side (half_of self) code.number) (GoesOn Takes self code.number) result }
     {
         if self.is_push_open() {
             self.finish_push(code)

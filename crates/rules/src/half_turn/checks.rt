@@ -10,9 +10,9 @@ ghost use Rattle.rules.specs.Checks.{turn_checks};
 ghost use Rattle.rules.specs.Answers.{Answers};
 
 use super::HalfTurn;
-use crate::Pending;
-use crate::codes::{backward, direction_of, square_of};
+use crate::codes::backward;
 use crate::stepped::settle_after;
+use crate::{Pending, StepCode};
 use bits::Square;
 use board::{Kind, Piece, Refusal};
 
@@ -34,11 +34,11 @@ pub(super) struct CallChecks {
 
 impl HalfTurn {
     /// What the code asks for, or the first check that hits.
-    pub(super) fn checked(self, code: u8, call: CallChecks) -> Result<Asked, Refusal>
-        ensures { Answers (turn_checks self.side self.board code (call.steps_made ≡ true) (call.no_push_or_pull ≡ true) (call.unfinished_push ≡ true)) (AsksFor self.board code) result }
+    pub(super) fn checked(self, code: StepCode, call: CallChecks) -> Result<Asked, Refusal>
+        ensures { Answers (turn_checks self.side self.board code.number (call.steps_made ≡ true) (call.no_push_or_pull ≡ true) (call.unfinished_push ≡ true)) (AsksFor self.board code.number) result }
     {
-        let from = square_of(code);
-        let to = from.toward(direction_of(code)).ok_or(Refusal::OffBoard)?;
+        let from = code.square();
+        let to = code.target().ok_or(Refusal::OffBoard)?;
         let piece = self.board.at(from).ok_or(Refusal::EmptySquare)?;
         if call.steps_made {
             return Err(Refusal::StepsMade);
@@ -69,12 +69,12 @@ impl HalfTurn {
     }
 
     /// Whether the piece is an own rabbit and the code's step goes backward.
-    fn goes_backward(self, code: u8, piece: Piece) -> bool
-        ensures { Decides result ((piece.side ≡ self.side) × (piece.kind ≡ Rabbit) × (direction code ≡ back self.side)) }
+    fn goes_backward(self, code: StepCode, piece: Piece) -> bool
+        ensures { Decides result ((piece.side ≡ self.side) × (piece.kind ≡ Rabbit) × (direction code.number ≡ back self.side)) }
     {
         piece.side == self.side
             && piece.kind == Kind::Rabbit
-            && direction_of(code) == backward(self.side)
+            && code.direction() == backward(self.side)
     }
 
     /// The half-made turn after the step, with what the step leaves open.

@@ -1,24 +1,16 @@
 // What a code's step would be: the one text that says what ends a pull, begins a push and finishes one.
 ghost use Rattle.std.specs.Prelude.{◌≤◌, Decides, MatchOption};
 ghost use Rattle.board.specs.declared.pieces.Piece.{Piece as PieceT};
-ghost use Rattle.rules.specs.Codes.{square, Goes};
+ghost use Rattle.rules.specs.Codes.{square};
 ghost use Rattle.rules.specs.Steps.{Own, Enemy};
 ghost use Rattle.rules.specs.Actions.{CanPush, Pusher, BeginsPush};
 ghost use Rattle.rules.specs.HalfTurns.{half_of, NoPush, opened, Ends, Finishes};
 ghost use Rattle.rules.specs.Checks.{Foreign};
 
 use super::HalfTurn;
-use crate::Pending;
-use crate::codes::{direction_of, square_of};
+use crate::{Pending, StepCode};
 use bits::Square;
 use board::{Kind, Piece};
-
-/// Whether the code's step goes to the square.
-fn goes_to(code: u8, target: Square) -> bool
-    ensures { Decides result (Goes code target.number) }
-{
-    square_of(code).toward(direction_of(code)) == Some(target)
-}
 
 impl HalfTurn {
     pub fn is_push_open(self) -> bool
@@ -53,39 +45,39 @@ impl HalfTurn {
     }
 
     /// Whether the code's square holds an enemy piece.
-    pub(super) fn moves_enemy(self, code: u8) -> bool
-        ensures { Decides result ((p : PieceT) × Enemy self.side self.board (square code) p) }
+    pub(super) fn moves_enemy(self, code: StepCode) -> bool
+        ensures { Decides result ((p : PieceT) × Enemy self.side self.board (square code.number) p) }
     {
-        self.enemy_at(square_of(code)).is_some()
+        self.enemy_at(code.square()).is_some()
     }
 
     /// The pull test: whether the code's step ends the pull that is possible. The puller may be gone.
-    pub(super) fn ends_pull(self, code: u8) -> bool
-        ensures { Decides result (Ends self.side (opened self.pending) self.board code) }
+    pub(super) fn ends_pull(self, code: StepCode) -> bool
+        ensures { Decides result (Ends self.side (opened self.pending) self.board code.number) }
     {
         let Pending::Pull { left, puller } = self.pending else {
             return false;
         };
-        self.enemy_at(square_of(code)).is_some_and(|piece| puller.is_stronger(piece.kind)
-            && goes_to(code, left))
+        self.enemy_at(code.square()).is_some_and(|piece| puller.is_stronger(piece.kind)
+            && code.goes_to(left))
     }
 
     /// Whether the code's step, with no push open, moves an enemy piece and ends no pull.
-    pub(super) fn is_foreign(self, code: u8) -> bool
-        ensures { Decides result (NoPush (opened self.pending) × Foreign self.side (half_of self) code) }
+    pub(super) fn is_foreign(self, code: StepCode) -> bool
+        ensures { Decides result (NoPush (opened self.pending) × Foreign self.side (half_of self) code.number) }
     {
         !self.is_push_open() && self.moves_enemy(code) && !self.ends_pull(code)
     }
 
     /// Whether the code's step finishes the push that is open.
-    pub(super) fn finishes_push(self, code: u8) -> bool
-        ensures { Decides result (Finishes self.side (opened self.pending) self.board code) }
+    pub(super) fn finishes_push(self, code: StepCode) -> bool
+        ensures { Decides result (Finishes self.side (opened self.pending) self.board code.number) }
     {
         let Pending::Push { left, pushed } = self.pending else {
             return false;
         };
-        self.own_at(square_of(code)).is_some_and(|piece| piece.kind.is_stronger(pushed)
-            && goes_to(code, left))
+        self.own_at(code.square()).is_some_and(|piece| piece.kind.is_stronger(pushed)
+            && code.goes_to(left))
     }
 
     /// Whether the square has an own piece that is stronger than the kind and isn't frozen.
@@ -108,10 +100,10 @@ impl HalfTurn {
     }
 
     /// Whether the code's step begins a push: an enemy piece with a stronger own piece next to it that isn't frozen.
-    pub(super) fn begins_push(self, code: u8) -> bool
-        ensures { Decides result (BeginsPush self.side self.board code) }
+    pub(super) fn begins_push(self, code: StepCode) -> bool
+        ensures { Decides result (BeginsPush self.side self.board code.number) }
     {
-        let from = square_of(code);
+        let from = code.square();
         self.enemy_at(from)
             .is_some_and(|piece| self.has_pusher(from, piece.kind))
     }

@@ -22,7 +22,7 @@ returns-in_err-asked c =
     let neither = decides_neither r b c.if-not-open.call (opened h.pending) is_neither c.is_push_open-open.ensures c.begins_push-begins.ensures in
     let p = err_from_is_err_and c.from_residual.result c.from_residual.ensures.1 in
     rw (p.1, p.2)
-    (turn_first h.side h.board c.args.code c.has_made.ensures neither c.is_push_open-open.ensures
+    (turn_first h.side h.board c.args.code.number c.has_made.ensures neither c.is_push_open-open.ensures
     (refusal_number c.in_err-asked.field-0.0) c.in_err-asked.ensures)
 
 pub returns : goal.returns
@@ -38,11 +38,11 @@ returns c =
     let asks = c.in_ok-asked.ensures in
     let after = c.after.ensures in
     let none =
-    turn_none h.side h.board c.args.code c.has_made.ensures neither c.is_push_open-open.ensures asks.0 in
+    turn_none h.side h.board c.args.code.number c.has_made.ensures neither c.is_push_open-open.ensures asks.0 in
     let taken =
-    push_taken h.side h.board c.after.result.board h.steps o c.args.code asked.piece asks.1.there (after.step c.args.code asks.1) none
+    push_taken h.side h.board c.after.result.board h.steps o c.args.code.number asked.piece asks.1.there (after.step c.args.code.number asks.1) none
     (sure c.begins_push-begins.result c.begins_push-begins.ensures) in
-    let is : half_of c.after.result ≡ half c.after.result.board (h.steps + 1) (push_open (square c.args.code) asked.piece.kind) =
+    let is : half_of c.after.result ≡ half c.after.result.board (h.steps + 1) (push_open (square c.args.code.number) asked.piece.kind) =
     ap₂ (λ (n : ℕ) (q : Pending). half c.after.result.board n (opened q)) after.same.1 after.same.2
     ∙ ap (λ (s : ℕ). half c.after.result.board (h.steps + 1) (push_open s asked.piece.kind)) asks.1.stands in
-    (none, (after.same.0, subst (StepsPush h.side (half_of h) c.args.code) (sym is) taken))
+    (none, (after.same.0, subst (StepsPush h.side (half_of h) c.args.code.number) (sym is) taken))

@@ -11,6 +11,6 @@ returns c =
     let side = c.args.self.side in
     let b = c.args.self.board in
     let r = c.is_some_and.result in
-    let pushed = enemy_tested (λ p. Pusher side b c.square_of-from.result.number p.kind) c.enemy_at.result r c.enemy_at.ensures c.is_some_and.ensures (λ p q. search rules) in
+    let pushed = enemy_tested (λ p. Pusher side b c.square-from.result.number p.kind) c.enemy_at.result r c.enemy_at.ensures c.is_some_and.ensures (λ p q. search rules) in
     Decides-like r (λ h. record { piece = h.0; enemy = h.1; pusher = h.2 }) (λ f. (f.piece, f.enemy, f.pusher))
-    (subst (λ (s : ℕ). Decides r ((p : Piece) × Enemy side b s p × Pusher side b s p.kind)) c.square_of-from.ensures pushed)
+    (subst (λ (s : ℕ). Decides r ((p : Piece) × Enemy side b s p × Pusher side b s p.kind)) c.square-from.ensures pushed)

@@ -10,10 +10,10 @@ pub returns-then-call-2 : goal.returns-then-call-2
 returns-then-call-2 c =
     let side = c.args.self.side in
     let b = c.args.self.board in
-    let at = c.square_of-from.ensures in
-    let a : Asked = record { from = c.square_of-from.result; to = c.in_ok-to.to; piece = c.in_ok-piece.piece } in
+    let at = c.square-from.ensures in
+    let a : Asked = record { from = c.square-from.result; to = c.in_ok-to.to; piece = c.in_ok-piece.piece } in
     let asks =
-    finds b c.args.code a c.direction_of.result c.toward.result c.at.result c.at-2.result c.is_some.result at c.direction_of.ensures c.toward.ensures
+    finds b c.args.code.number a c.target.result c.at.result c.at-2.result c.is_some.result at c.target.ensures
     c.in_ok-to.ensures.ok_part c.at.ensures c.in_ok-piece.ensures.ok_part c.at-2.ensures c.is_some.ensures c.if-is_some.false in
     found asks c.args.call.steps_made c.if-call.false
     c.if-call-2.true
@@ -22,10 +22,10 @@ pub returns-then-is_stuck : goal.returns-then-is_stuck
 returns-then-is_stuck c =
     let side = c.args.self.side in
     let b = c.args.self.board in
-    let at = c.square_of-from.ensures in
-    let a : Asked = record { from = c.square_of-from.result; to = c.in_ok-to.to; piece = c.in_ok-piece.piece } in
+    let at = c.square-from.ensures in
+    let a : Asked = record { from = c.square-from.result; to = c.in_ok-to.to; piece = c.in_ok-piece.piece } in
     let asks =
-    finds b c.args.code a c.direction_of.result c.toward.result c.at.result c.at-2.result c.is_some.result at c.direction_of.ensures c.toward.ensures
+    finds b c.args.code.number a c.target.result c.at.result c.at-2.result c.is_some.result at c.target.ensures
     c.in_ok-to.ensures.ok_part c.at.ensures c.in_ok-piece.ensures.ok_part c.at-2.ensures c.is_some.ensures c.if-is_some.false in
     let x = c.is_stuck.ensures.0 c.if-is_stuck.true in
     found asks c.args.call.steps_made c.if-call.false
@@ -35,10 +35,10 @@ pub returns-then-goes_backward : goal.returns-then-goes_backward
 returns-then-goes_backward c =
     let side = c.args.self.side in
     let b = c.args.self.board in
-    let at = c.square_of-from.ensures in
-    let a : Asked = record { from = c.square_of-from.result; to = c.in_ok-to.to; piece = c.in_ok-piece.piece } in
+    let at = c.square-from.ensures in
+    let a : Asked = record { from = c.square-from.result; to = c.in_ok-to.to; piece = c.in_ok-piece.piece } in
     let asks =
-    finds b c.args.code a c.direction_of.result c.toward.result c.at.result c.at-2.result c.is_some.result at c.direction_of.ensures c.toward.ensures
+    finds b c.args.code.number a c.target.result c.at.result c.at-2.result c.is_some.result at c.target.ensures
     c.in_ok-to.ensures.ok_part c.at.ensures c.in_ok-piece.ensures.ok_part c.at-2.ensures c.is_some.ensures c.if-is_some.false in
     let free =
     unfrozen asks side
@@ -51,10 +51,10 @@ pub returns-then-call-3 : goal.returns-then-call-3
 returns-then-call-3 c =
     let side = c.args.self.side in
     let b = c.args.self.board in
-    let at = c.square_of-from.ensures in
-    let a : Asked = record { from = c.square_of-from.result; to = c.in_ok-to.to; piece = c.in_ok-piece.piece } in
+    let at = c.square-from.ensures in
+    let a : Asked = record { from = c.square-from.result; to = c.in_ok-to.to; piece = c.in_ok-piece.piece } in
     let asks =
-    finds b c.args.code a c.direction_of.result c.toward.result c.at.result c.at-2.result c.is_some.result at c.direction_of.ensures c.toward.ensures
+    finds b c.args.code.number a c.target.result c.at.result c.at-2.result c.is_some.result at c.target.ensures
     c.in_ok-to.ensures.ok_part c.at.ensures c.in_ok-piece.ensures.ok_part c.at-2.ensures c.is_some.ensures c.if-is_some.false in
     let free =
     unfrozen asks side
@@ -67,10 +67,10 @@ pub returns : goal.returns
 returns c =
     let side = c.args.self.side in
     let b = c.args.self.board in
-    let at = c.square_of-from.ensures in
-    let a : Asked = record { from = c.square_of-from.result; to = c.in_ok-to.to; piece = c.in_ok-piece.piece } in
+    let at = c.square-from.ensures in
+    let a : Asked = record { from = c.square-from.result; to = c.in_ok-to.to; piece = c.in_ok-piece.piece } in
     let asks =
-    finds b c.args.code a c.direction_of.result c.toward.result c.at.result c.at-2.result c.is_some.result at c.direction_of.ensures c.toward.ensures
+    finds b c.args.code.number a c.target.result c.at.result c.at-2.result c.is_some.result at c.target.ensures
     c.in_ok-to.ensures.ok_part c.at.ensures c.in_ok-piece.ensures.ok_part c.at-2.ensures c.is_some.ensures c.if-is_some.false in
     let free =
     unfrozen asks side

@@ -17,7 +17,7 @@ returns-in_err-asked c =
     let h = c.args.self in
     let p = err_from_is_err_and c.from_residual.result c.from_residual.ensures.1 in
     rw (p.1, p.2)
-    (turn_first h.side h.board c.args.code c.has_made.ensures c.is_foreign.ensures c.is_push_open.ensures
+    (turn_first h.side h.board c.args.code.number c.has_made.ensures c.is_foreign.ensures c.is_push_open.ensures
     (refusal_number c.in_err-asked.field-0.0) c.in_err-asked.ensures)
 
 pub returns : goal.returns
@@ -29,20 +29,20 @@ returns c =
     let asks = c.in_ok-asked.ensures in
     let after = c.after.ensures in
     let b' = c.after.result.board in
-    let none = turn_none h.side h.board c.args.code c.has_made.ensures c.is_foreign.ensures c.is_push_open.ensures asks.0 in
-    let step = after.step c.args.code asks.1 in
+    let none = turn_none h.side h.board c.args.code.number c.has_made.ensures c.is_foreign.ensures c.is_push_open.ensures asks.0 in
+    let step = after.step c.args.code.number asks.1 in
     let is : (q : Pending) → c.if-ends_pull.pending ≡ q → half_of c.after.result ≡ half b' (h.steps + 1) (opened q) =
     λ q e. ap₂ (λ (n : ℕ) (q : Pending). half b' n (opened q)) after.same.1 (after.same.2 ∙ e) in
-    let way : Steps h.side (half_of h) c.args.code (half_of c.after.result) =
+    let way : Steps h.side (half_of h) c.args.code.number (half_of c.after.result) =
     elim c.if-ends_pull.branch [
       | then-ends_pull w ↦
-          subst (Steps h.side (half_of h) c.args.code) (sym (is _ w.pending-is))
-          (inr (pull_taken h.side h.board b' h.steps o c.args.code asked.piece asks.1.there step none (ends.0 w.if-ends_pull.true)))
+          subst (Steps h.side (half_of h) c.args.code.number) (sym (is _ w.pending-is))
+          (inr (pull_taken h.side h.board b' h.steps o c.args.code.number asked.piece asks.1.there step none (ends.0 w.if-ends_pull.true)))
       | else-ends_pull w ↦
-          subst (Steps h.side (half_of h) c.args.code)
+          subst (Steps h.side (half_of h) c.args.code.number)
           (sym (is _ w.pending-is ∙ ap (λ (s : ℕ). half b' (h.steps + 1) (pull_possible s asked.piece.kind)) asks.1.stands))
           (inl
-          (plain_taken h.side h.board b' h.steps o c.args.code asked.piece asks.1.there step none
+          (plain_taken h.side h.board b' h.steps o c.args.code.number asked.piece asks.1.there step none
           (not_from_Decides c.ends_pull.result ends w.if-ends_pull.false)))
     ] in
     (none, (after.same.0, way))
