@@ -1,5 +1,7 @@
 pub mod Going
 pub mod Pieces
+pub mod Standing
+pub mod Pushers
 pub mod Opens
 pub mod Decided
 pub mod Simulation
@@ -15,4 +17,5 @@ pub mod Passing
 pub mod Alike
 pub mod Taking
 pub mod Reading
+pub mod Mapped
 pub mod Running

@@ -1,8 +1,7 @@
 -- A code that finds a piece and an empty square to go to is not refused for that.
-use Rattle.std.proofs.Common.{◌≡◌, ℕ, Bool, true, false, is_some, Some, None, Option, sym, ap, ◌∙◌}
+use Rattle.std.proofs.Common.{◌≡◌, ℕ, Bool, true, false, is_some, Some, None, Option, MatchOption, sym, ap, ◌∙◌}
 use Rattle.std.proofs.lemmas.Bool.{both_ways}
-use Rattle.bits.specs.declared.direction.Direction.{Direction}
-use Rattle.bits.specs.Squares.{Toward}
+use Rattle.bits.specs.declared.square.Square.{Square}
 use Rattle.board.specs.declared.pieces.Side.{Side}
 use Rattle.board.specs.declared.pieces.Kind.TheVariants.{Rabbit}
 use Rattle.board.specs.declared.pieces.Piece.{Piece}
@@ -15,18 +14,18 @@ use Rattle.rules.specs.Steps.{Own}
 use Rattle.rules.specs.Asked.{AsksFor}
 use Rattle.rules.proofs.Going.{goes_one}
 use Rattle.rules.proofs.Pieces.{not_empty, one_piece}
-use Rattle.rules.proofs.Stepping.{goes_by, is_none}
+use Rattle.rules.proofs.Stepping.{is_none}
 
 -- what the code asks for, by what it finds on its square and on its target
-pub finds : (b : Board) (c : ℕ) (a : Asked) (d : Direction) (o : Option Piece) (r : Bool) → a.from.number ≡ square c → d ≡ direction c
-    → Toward d a.from.number a.to.number → Some a.piece ≡ cell b a.from.number → o ≡ cell b a.to.number → r ≡ is_some o → r ≡ false
-    → AsksFor b c a
-finds b c a d o r at by toward there target some none =
+pub finds : (b : Board) (c : ℕ) (a : Asked) (x : Option Square) (o p : Option Piece) (r : Bool) → a.from.number ≡ square c
+    → MatchOption x ((t : ℕ) → Goes c t → ⊥) (λ to. Goes c to.number) → x ≡ Some a.to → o ≡ cell b a.from.number → o ≡ Some a.piece → p ≡ cell b a.to.number
+    → r ≡ is_some p → r ≡ false → AsksFor b c a
+finds b c a x o p r at goes to there piece target some none =
     record {
       stands = at;
-      goes = goes_by at by a.to.below toward;
-      there = ap (cell b) (sym at) ∙ sym there;
-      empty = sym target ∙ is_none o (sym some ∙ none);
+      goes = rw to at goes;
+      there = ap (cell b) (sym at) ∙ sym there ∙ piece;
+      empty = sym target ∙ is_none p (sym some ∙ none);
     }
 
 module _ {b : Board} {c : ℕ} {a : Asked} (f : AsksFor b c a) where

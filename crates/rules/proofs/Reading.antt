@@ -1,5 +1,6 @@
 -- Reading a code is finishing a push, beginning one, or stepping.
-use Rattle.std.proofs.Common.{ℕ, ◌≤◌, ◌⊎◌, Result, inl, inr, arith}
+use Rattle.std.proofs.Common.{◌≡◌, ℕ, ◌≤◌, ◌⊎◌, Bool, false, Result, Decides, inl, inr, arith}
+use Rattle.std.proofs.lemmas.Bool.Decides.{not_from_Decides}
 use Rattle.std.proofs.lemmas.Result.{MatchResult-weaker}
 use Rattle.board.specs.declared.refusal.Refusal.{Refusal}
 use Rattle.board.specs.Refusals.{refusal_number}
@@ -9,6 +10,7 @@ use Rattle.rules.specs.HalfTurns.Takes.{plain, pull, push, after}
 use Rattle.rules.specs.Checks.{Foreign, step_checks, begin_checks, finish_checks, read_checks}
 use Rattle.rules.specs.Answers.{Answers, GoesOn, Steps}
 use Rattle.rules.proofs.Alike.{turn_none, turn_first}
+use Rattle.rules.proofs.Taking.{closed}
 
 -- with no push open, an enemy step that ends no pull is one too many after three, any other after four
 three_made : {P F : Type 0} (n : ℕ) → F → (P × (3 ≤ n) → P × ((4 ≤ n) ⊎ ((3 ≤ n) × F))) × (P × ((4 ≤ n) ⊎ ((3 ≤ n) × F)) → P × (3 ≤ n))
@@ -53,8 +55,10 @@ module _ (h : HalfTurn) (c : ℕ) (r : Result HalfTurn Refusal) where
   stepped (inl s) = plain s
   stepped (inr s) = pull s
 
-  pub reads_step : Idle → (Foreign h.side (half_of h) c → ⊥) → Answers (step_checks h.side (half_of h) c) (GoesOn Steps h c) r → Read
-  reads_step idle own a =
+  pub reads_step : (x y : Bool) → x ≡ false → y ≡ false → Decides x (Idle → ⊥) → Decides y (Idle × Foreign h.side (half_of h) c) → Answers (step_checks h.side (half_of h) c) (GoesOn Steps h c) r → Read
+  reads_step x y e f dx dy a =
+      let idle = closed (opened h.pending) (not_from_Decides x dx e) in
+      let own : Foreign h.side (half_of h) c → ⊥ = λ z. not_from_Decides y dy f (idle, z) in
       MatchResult-weaker r a
       (λ x f. (
         turn_none h.side h.board c (four_made h.steps own) ((λ f. absurd (own f.1)), λ f. (f.0, f.1)) ((λ f. absurd (f idle)), λ f. f.0) f.0,

@@ -1,17 +1,12 @@
 -- A step from what the code finds on the board.
-use Rattle.std.proofs.Common.{◌≡◌, ℕ, ◌<◌, true, false, is_some as option_is_some, Some, None, Option, refl, subst}
+use Rattle.std.proofs.Common.{◌≡◌, ℕ, true, false, is_some as option_is_some, Some, None, Option, refl, subst}
 use Rattle.std.proofs.lemmas.Bool.{true≢false, false≢true}
-use Rattle.bits.specs.declared.direction.Direction.{Direction}
-use Rattle.bits.specs.Squares.{Toward}
 use Rattle.board.specs.declared.pieces.Piece.{Piece}
 use Rattle.board.specs.declared.board.Board.{Board}
 use Rattle.board.specs.Cells.{cell, Moved}
 use Rattle.board.specs.Standing.{Settled}
-use Rattle.rules.specs.Codes.{square, direction, Goes}
+use Rattle.rules.specs.Codes.{square, Goes}
 use Rattle.rules.specs.Steps.{Step}
-
-pub goes_by : {c s t : ℕ} {d : Direction} → s ≡ square c → d ≡ direction c → t < 64 → Toward d s t → Goes c t
-goes_by {c} {s} {t} {d} at by h w = record { inside = h; toward = rw (at, by) at w }
 
 -- the step from s to t, by the board with the piece moved
 abbrev pub stepped : {b b' m : Board} {c s t : ℕ} {p : Piece} → s ≡ square c → Goes c t → cell b (square c) ≡ Some p → cell b t ≡ None → Moved b s t m

@@ -1,7 +1,7 @@
 -- What the calls take when no check hits.
-use Rattle.std.proofs.Common.{◌≡◌, ℕ, ◌+◌, ◌<◌, ◌≤◌, Bool, true, false, not, ◌&&◌, ltb, ◌⊎◌, Some, Decides, refl, subst, inl, inr, ⊎_elim}
+use Rattle.std.proofs.Common.{◌≡◌, ℕ, ◌+◌, ◌<◌, ◌≤◌, Bool, true, false, not, ◌&&◌, ◌⊎◌, Some, Decides, refl, subst, inl, inr, ⊎_elim}
 use Rattle.std.proofs.lemmas.Bool.{cases_lt, cases_Bool, false≢true}
-use Rattle.std.proofs.lemmas.Bool.Decides.{not_from_Decides, Decides-not, Decides-and, Decides-ltb, Decides-like}
+use Rattle.std.proofs.lemmas.Bool.Decides.{not_from_Decides, Decides-at, Decides-not, Decides-and, Decides-like}
 use Rattle.board.specs.declared.pieces.Side.{Side}
 use Rattle.board.specs.declared.pieces.Side.TheVariants.{Gold, Silver}
 use Rattle.board.specs.declared.pieces.Piece.{Piece}
@@ -35,22 +35,12 @@ closed nothing nn = tt
 closed (pull_possible s k) nn = tt
 closed (push_open s k) nn = nn (λ h. h)
 
-pub decides_closed : (r : Bool) (o : Open) → Decides r (NoPush o → ⊥) → Decides (not r) (NoPush o)
+decides_closed : (r : Bool) (o : Open) → Decides r (NoPush o → ⊥) → Decides (not r) (NoPush o)
 decides_closed r o d = Decides-like (not r) (closed o) (λ h n. n h) (Decides-not r d)
 
--- too many steps with no push open
-pub decides_many : (r : Bool) (o : Open) (k n : ℕ) → Decides r (NoPush o → ⊥) → Decides (not r && ltb k n) (NoPush o × (k < n))
-decides_many r o k n d = Decides-and (not r) (ltb k n) (decides_closed r o d) (Decides-ltb k n)
-
--- an enemy step that ends no pull
-pub decides_enemy : {A B : Type 0} {C : A → Type 0} (e p : Bool) → Decides e ((x : A) × C x) → Decides p B → Decides (e && not p) ((x : A) × C x × (B → ⊥))
-decides_enemy e p de dp =
-    Decides-like (e && not p) (λ f. (f.0.0, f.0.1, f.1)) (λ f. ((f.0, f.1), f.2)) (Decides-and e (not p) de (Decides-not p dp))
-
--- the same with no push open
-pub decides_foreign : {A B : Type 0} {C : A → Type 0} (r e p : Bool) (o : Open) → Decides r (NoPush o → ⊥) → Decides e ((x : A) × C x) → Decides p B
-    → Decides (not r && (e && not p)) (NoPush o × ((x : A) × C x × (B → ⊥)))
-decides_foreign r e p o dr de dp = Decides-and (not r) (e && not p) (decides_closed r o dr) (decides_enemy e p de dp)
+-- with no push open, and no push begun
+pub decides_neither : {B : Type 0} (r b x : Bool) (o : Open) → x ≡ (not r && not b) → Decides r (NoPush o → ⊥) → Decides b B → Decides x (NoPush o × (B → ⊥))
+decides_neither r b x o e dr db = Decides-at x (not r && not b) e (Decides-and (not r) (not b) (decides_closed r o dr) (Decides-not b db))
 
 two_sides : (x y : Side) → (x ≡ y) ⊎ (x ≡ opponent y)
 two_sides Gold Gold = inl refl

@@ -8,9 +8,9 @@ mod pending;
 mod playing;
 mod stepped;
 
-pub use codes::{direction_of, square_of};
+pub use codes::StepCode;
 pub use half_turn::HalfTurn;
 pub use laws::whoever_has_a_turn_has_one_that_changes_the_board;
 pub use pending::Pending;
-pub use playing::{Played, play};
+pub use playing::{Played, StepRefused, play};
 pub use stepped::{Stepped, after_step};

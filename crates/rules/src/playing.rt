@@ -3,10 +3,11 @@ ghost use Rattle.std.specs.Prelude.{◌≡◌};
 ghost use Rattle.board.specs.declared.board.Board.{Board as BoardT};
 ghost use Rattle.board.specs.Counts.{Lawful};
 ghost use Rattle.rules.specs.declared.playing.Played.TheVariants.{Whole};
+ghost use Rattle.rules.specs.Codes.{numbers};
 ghost use Rattle.rules.specs.Actions.{Turn};
 ghost use Rattle.rules.specs.Played.{Plays};
 
-use crate::HalfTurn;
+use crate::{HalfTurn, StepCode};
 use board::{Board, Refusal};
 use position::Position;
 
@@ -19,28 +20,31 @@ pub enum Played {
     Whole(Board),
     /// The codes leave a push half done.
     Half(Board),
-    /// The code at that place, from 0, is refused.
-    Refused(usize, Refusal),
+}
+
+/// The first code that is refused: its place, from 0, and why.
+#[derive(Clone, Copy)]
+pub struct StepRefused {
+    pub at: usize,
+    pub why: Refusal,
 }
 
 /// Plays the codes from the position.
-pub fn play(position: Position, codes: &[u8]) -> Played
-    ensures exact { Plays position.side position.board codes.now result }
-    ensures turns_are_what_is_read_whole { (b : BoardT) → (Turn position.side position.board codes.now b → result ≡ Whole b) × (result ≡ Whole b → Turn position.side position.board codes.now b) }
-    ensures a_position_stays_one { Lawful position.board → (b : BoardT) → result ≡ Whole b → Lawful b }
+pub fn play(position: Position, codes: &[StepCode]) -> Result<Played, StepRefused>
+    ensures exact { Plays position.side position.board (numbers codes.now) result }
+    ensures turns_are_what_is_read_whole { (b : BoardT) → (Turn position.side position.board (numbers codes.now) b → result ≡ Ok (Whole b)) × (result ≡ Ok (Whole b) → Turn position.side position.board (numbers codes.now) b) }
+    ensures a_position_stays_one { Lawful position.board → (b : BoardT) → result ≡ Ok (Whole b) → Lawful b }
 {
     let mut turn = HalfTurn::start(position);
     for (at, code) in codes.iter().enumerate() {
-        match turn.read(*code) {
-            Ok(next) => turn = next,
-            Err(why) => return Played::Refused(at, why),
-        }
+        turn = turn.read(*code).map_err(|why| StepRefused { at, why })?;
     }
+    let board = turn.board();
     if codes.is_empty() {
-        Played::Start
+        Ok(Played::Start)
     } else if turn.is_push_open() {
-        Played::Half(turn.board())
+        Ok(Played::Half(board))
     } else {
-        Played::Whole(turn.board())
+        Ok(Played::Whole(board))
     }
 }

@@ -7,7 +7,7 @@ ghost use Rattle.board.specs.Counts.{Lawful};
 ghost use Rattle.rules.specs.Steps.{Step};
 ghost use Rattle.rules.specs.Removals.{Tells, RemovesOneAtMost};
 
-use crate::codes::{direction_of, square_of};
+use crate::StepCode;
 use bits::Square;
 use board::{Board, Piece};
 
@@ -23,8 +23,7 @@ fn unsupported_piece(board: Board) -> Option<(Square, Piece)>
     ensures { Tells board result }
 {
     let square = board.unsupported().lowest()?;
-    let piece = board.at(square)?;
-    Some((square, piece))
+    Some((square, board.at(square)?))
 }
 
 /// The board after the piece of one square went to another, with what is then unsupported taken away.
@@ -39,13 +38,13 @@ pub(crate) fn settle_after(board: Board, from: Square, to: Square) -> Stepped
 }
 
 /// The board after the code's step, if a piece can step so.
-pub fn after_step(board: Board, code: u8) -> Option<Stepped>
-    ensures exact { MatchOption result ((b : BoardT) → Step board code b → ⊥) (λ x. (t : Step board code x.board) × Tells t.moved x.removed) }
-    ensures a_step_removes_at_most_one_piece { Supported board → RemovesOneAtMost board code }
+pub fn after_step(board: Board, code: StepCode) -> Option<Stepped>
+    ensures exact { MatchOption result ((b : BoardT) → Step board code.number b → ⊥) (λ x. (t : Step board code.number x.board) × Tells t.moved x.removed) }
+    ensures a_step_removes_at_most_one_piece { Supported board → RemovesOneAtMost board code.number }
     ensures a_position_stays_one { IfSome result (λ x. Lawful board → Lawful x.board) }
 {
-    let from = square_of(code);
-    let to = from.toward(direction_of(code))?;
+    let from = code.square();
+    let to = code.target()?;
     board.at(from)?;
     if board.at(to).is_some() {
         return None;

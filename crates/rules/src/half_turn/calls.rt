@@ -5,7 +5,8 @@ ghost use Rattle.rules.specs.Checks.{step_checks, begin_checks, finish_checks, r
 ghost use Rattle.rules.specs.Answers.{Answers, GoesOn, Steps};
 
 use super::HalfTurn;
-use crate::Pending;
+use super::checks::CallChecks;
+use crate::{Pending, StepCode};
 use board::{Board, Refusal, Side};
 use position::Position;
 
@@ -51,50 +52,66 @@ impl HalfTurn {
     }
 
     /// A plain step, or the second half of a pull.
-    pub fn step(self, code: u8) -> Result<HalfTurn, Refusal>
-        ensures { Answers (step_checks self.side (half_of self) code) (GoesOn Steps self code) result }
+    pub fn step(self, code: StepCode) -> Result<HalfTurn, Refusal>
+        ensures { Answers (step_checks self.side (half_of self) code.number) (GoesOn Steps self code.number) result }
     {
-        let open = self.is_push_open();
-        let pulled = self.ends_pull(code);
-        let many = !open & (self.steps >= 4);
-        let neither = !open & (self.moves_enemy(code) & !pulled);
-        let asked = self.checked(code, many, neither, open)?;
-        let pending = if pulled {
+        let call = CallChecks {
+            steps_made: self.has_made(4),
+            no_push_or_pull: self.is_foreign(code),
+            unfinished_push: self.is_push_open(),
+        };
+        let asked = self.checked(code, call)?;
+        let pending = if self.ends_pull(code) {
             Pending::Nothing
         } else {
-            Pending::Pull(asked.from, asked.piece.kind)
+            Pending::Pull {
+                left: asked.from,
+                puller: asked.piece.kind,
+            }
         };
         Ok(self.after(asked, pending))
     }
 
     /// The first half of a push.
-    pub fn begin_push(self, code: u8) -> Result<HalfTurn, Refusal>
-        ensures { Answers (begin_checks self.side (half_of self) code) (GoesOn StepsPush self code) result }
+    pub fn begin_push(self, code: StepCode) -> Result<HalfTurn, Refusal>
+        ensures { Answers (begin_checks self.side (half_of self) code.number) (GoesOn StepsPush self code.number) result }
     {
         let open = self.is_push_open();
-        let many = !open & (self.steps >= 3);
-        let neither = !open & !self.begins_push(code);
-        let asked = self.checked(code, many, neither, open)?;
-        Ok(self.after(asked, Pending::Push(asked.from, asked.piece.kind)))
+        let begins = self.begins_push(code);
+        let call = CallChecks {
+            steps_made: self.has_made(3),
+            no_push_or_pull: !open && !begins,
+            unfinished_push: open,
+        };
+        let asked = self.checked(code, call)?;
+        let pending = Pending::Push {
+            left: asked.from,
+            pushed: asked.piece.kind,
+        };
+        Ok(self.after(asked, pending))
     }
 
     /// The second half of a push.
-    pub fn finish_push(self, code: u8) -> Result<HalfTurn, Refusal>
-        ensures { Answers (finish_checks self.side (half_of self) code) (GoesOn StepsAfter self code) result }
+    pub fn finish_push(self, code: StepCode) -> Result<HalfTurn, Refusal>
+        ensures { Answers (finish_checks self.side (half_of self) code.number) (GoesOn StepsAfter self code.number) result }
     {
-        let unfinished = !self.finishes_push(code);
-        let asked = self.checked(code, false, false, unfinished)?;
+        let call = CallChecks {
+            steps_made: false,
+            no_push_or_pull: false,
+            unfinished_push: !self.finishes_push(code),
+        };
+        let asked = self.checked(code, call)?;
         Ok(self.after(asked, Pending::Nothing))
     }
 
     /// A step as a line of a record has it: with a push open it finishes that; an enemy step that can end a pull is
     /// that, and any other begins a push.
-    pub fn read(self, code: u8) -> Result<HalfTurn, Refusal>
-        ensures { Answers (read_checks self.side (half_of self) code) (GoesOn Takes self code) result }
+    pub fn read(self, code: StepCode) -> Result<HalfTurn, Refusal>
+        ensures { Answers (read_checks self.side (half_of self) code.number) (GoesOn Takes self code.number) result }
     {
         if self.is_push_open() {
             self.finish_push(code)
-        } else if self.moves_enemy(code) & !self.ends_pull(code) {
+        } else if self.is_foreign(code) {
             self.begin_push(code)
         } else {
             self.step(code)

@@ -10,9 +10,9 @@ ghost use Rattle.rules.specs.Checks.{turn_checks};
 ghost use Rattle.rules.specs.Answers.{Answers};
 
 use super::HalfTurn;
-use crate::Pending;
-use crate::codes::{backward, direction_of, square_of};
+use crate::codes::backward;
 use crate::stepped::settle_after;
+use crate::{Pending, StepCode};
 use bits::Square;
 use board::{Kind, Piece, Refusal};
 
@@ -24,32 +24,29 @@ pub(super) struct Asked {
     pub piece: Piece,
 }
 
+/// Of the checks, those whose conditions differ from call to call, and whether they hit.
+#[derive(Clone, Copy)]
+pub(super) struct CallChecks {
+    pub steps_made: bool,
+    pub no_push_or_pull: bool,
+    pub unfinished_push: bool,
+}
+
 impl HalfTurn {
-    /// What the code asks for, or the first check that hits. The call says whether too many steps are made,
-    /// whether the step is neither a push nor a pull, and whether a push stays unfinished.
-    pub(super) fn checked(
-        self,
-        code: u8,
-        many: bool,
-        neither: bool,
-        unfinished: bool,
-    ) -> Result<Asked, Refusal>
-        ensures { Answers (turn_checks self.side self.board code (many ≡ true) (neither ≡ true) (unfinished ≡ true)) (AsksFor self.board code) result }
+    /// What the code asks for, or the first check that hits.
+    pub(super) fn checked(self, code: StepCode, call: CallChecks) -> Result<Asked, Refusal>
+        ensures { Answers (turn_checks self.side self.board code.number (call.steps_made ≡ true) (call.no_push_or_pull ≡ true) (call.unfinished_push ≡ true)) (AsksFor self.board code.number) result }
     {
-        let from = square_of(code);
-        let Some(to) = from.toward(direction_of(code)) else {
-            return Err(Refusal::OffBoard);
-        };
-        let Some(piece) = self.board.at(from) else {
-            return Err(Refusal::EmptySquare);
-        };
-        if many {
+        let from = code.square();
+        let to = code.target().ok_or(Refusal::OffBoard)?;
+        let piece = self.board.at(from).ok_or(Refusal::EmptySquare)?;
+        if call.steps_made {
             return Err(Refusal::StepsMade);
         }
         if self.board.at(to).is_some() {
             return Err(Refusal::Occupied);
         }
-        if neither {
+        if call.no_push_or_pull {
             return Err(Refusal::NoPushOrPull);
         }
         if self.is_stuck(from, piece) {
@@ -58,7 +55,7 @@ impl HalfTurn {
         if self.goes_backward(code, piece) {
             return Err(Refusal::RabbitBackward);
         }
-        if unfinished {
+        if call.unfinished_push {
             return Err(Refusal::UnfinishedPush);
         }
         Ok(Asked { from, to, piece })
@@ -68,16 +65,16 @@ impl HalfTurn {
     fn is_stuck(self, square: Square, piece: Piece) -> bool
         ensures { Decides result ((piece.side ≡ self.side) × Frozen self.board square.number) }
     {
-        (piece.side == self.side) & self.board.is_frozen(square)
+        piece.side == self.side && self.board.is_frozen(square)
     }
 
     /// Whether the piece is an own rabbit and the code's step goes backward.
-    fn goes_backward(self, code: u8, piece: Piece) -> bool
-        ensures { Decides result ((piece.side ≡ self.side) × (piece.kind ≡ Rabbit) × (direction code ≡ back self.side)) }
+    fn goes_backward(self, code: StepCode, piece: Piece) -> bool
+        ensures { Decides result ((piece.side ≡ self.side) × (piece.kind ≡ Rabbit) × (direction code.number ≡ back self.side)) }
     {
         piece.side == self.side
             && piece.kind == Kind::Rabbit
-            && direction_of(code) == backward(self.side)
+            && code.direction() == backward(self.side)
     }
 
     /// The half-made turn after the step, with what the step leaves open.
