@@ -9,12 +9,10 @@ ghost use Rattle.std.specs.Iterator.{at_most};
 fn cut(text: &[u8], by: u8) -> (&[u8], Option<&[u8]>)
     ensures { pieces by text.now ≡ result.0.now ∷ pieces_left by result.1 }
 {
-    for (i, byte) in text.iter().enumerate() {
-        if *byte == by {
-            return (&text[0..i], Some(&text[i + 1..]));
-        }
+    match text.iter().position(|byte| *byte == by) {
+        Some(i) => (&text[..i], Some(&text[i + 1..])),
+        None => (text, None),
     }
-    (text, None)
 }
 
 /// The pieces of a text between the bytes that part them.
@@ -42,15 +40,12 @@ impl<'a> Iterator for Pieces<'a> {
 pub fn lines(text: &[u8]) -> Pieces<'_>
     ensures { to_come result ≡ lines_of text.now }
 {
-    let by = b'\n';
-    let Some((last, front)) = text.split_last() else {
-        return Pieces { rest: None, by };
+    let rest = match text {
+        [] => None,
+        [front @ .., b'\n'] => Some(front),
+        _ => Some(text),
     };
-    let rest = if *last == by { front } else { text };
-    Pieces {
-        rest: Some(rest),
-        by,
-    }
+    Pieces { rest, by: b'\n' }
 }
 
 /// The fields of a line, with one space between two.
@@ -81,8 +76,8 @@ pub fn number(text: &[u8]) -> Option<u8>
         return None;
     }
     let mut value = 0;
-    for byte in text {
-        value = with_digit(value, *byte)?;
+    for &byte in text {
+        value = with_digit(value, byte)?;
     }
     Some(value)
 }

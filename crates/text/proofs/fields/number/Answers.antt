@@ -1,4 +1,4 @@
-use Rattle.std.proofs.Common.{ℕ, ◌+◌, drop, sym, subst, arith, rules, MatchOption}
+use Rattle.std.proofs.Common.{ℕ, ◌+◌, drop, sym, subst, arith, rules}
 use Rattle.text.specs.Numerals.{Spells, Numeral}
 use Rattle.text.proofs.Spelling.{grows, next_digit, with_next, made_of}
 use Rattle.text.proofs.fields.number.Goals as goal
@@ -9,7 +9,7 @@ returns-in_err-value c =
     in let none : (n : ℕ) → Numeral text n → ⊥ =
     λ n t. let s = next_digit c.loop-byte.value text c.loop-byte.byte-index n c.loop-byte-test.true (c.loop-byte.invariant.0 n t.spells)
     in omega (arith, grows _ _ n s.1, c.in_err-value.ensures s.0, t.byte)
-    in subst (λ r. MatchOption r ((n : ℕ) → Numeral text n → ⊥) (Numeral text)) (sym c.from_residual.ensures) none
+    in search (rules, none)
 
 pub loop-byte-preserved : goal.loop-byte-preserved
 loop-byte-preserved c =
@@ -26,7 +26,7 @@ pub returns : goal.returns
 returns c =
     record {
       some = search rules;
-      few = c.if-text-gt3.false;
+      few = search rules;
       spells = c.loop-byte.invariant.1 c.loop-byte.value (made_of c.loop-byte.value c.args.text.now c.loop-byte.byte-index c.loop-byte-test.false);
       byte = c.loop-byte.invariant.2;
     }
