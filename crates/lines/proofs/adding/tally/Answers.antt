@@ -1,14 +1,15 @@
 use Rattle.std.proofs.Common.{◌∙◌, arith}
-use Rattle.std.proofs.lemmas.Grind.{common_steps}
-use Rattle.lines.proofs.Tallies.{holds}
+use Rattle.lines.proofs.Tallies.{held_then}
 use Rattle.lines.proofs.adding.tally.Goals as goal
+use Rattle.lines.proofs.adding.tally.Goals.{then-count-eq1+else-prove, else-count-eq1}
 
-pub loop-line-preserved : goal.loop-line-preserved
-loop-line-preserved g c =
-    let inv = c.loop-line.invariant in
-    let done = c.add_line-tallied.ensures inv.0 in
-    let s = g.S.Store.view c.loop-line.store in
-    let t = g.S.Store.view c.add_line-tallied.new.store in
-    let h = holds s t c.in-Some.line.now c.add_line-tallied.result done.1 in
-    let first = c.is_new.ensures in
-    (done.0, grind (arith, common_steps, h.new, h.old, first.0, first.1, inv.1, inv.2), h.capacity ∙ inv.2)
+pub loop-line-preserved-in-Continue-1 : goal.loop-line-preserved-in-Continue-1
+loop-line-preserved-in-Continue-1 g c =
+    let inv = c.loop-line.invariant
+    in let done = c.in-Ok.ensures inv.0
+    in let then = held_then (g.S.Store.view c.loop-line.store) (g.S.Store.view c.add_line.new.store) c.in-Some.line.now c.in-Ok.count done.1
+    in let room = done.1.2.0.capacity ∙ inv.2
+    in elim c.if-count-eq1.branch [
+      | then-count-eq1+else-prove w ↦ (done.0, omega (arith, then.0 w.if-count-eq1.true, w.held-is, inv.1), room)
+      | else-count-eq1 w ↦ (done.0, omega (arith, then.1 w.if-count-eq1.false, w.held-is, inv.1), room)
+    ]
