@@ -37,6 +37,7 @@ impl<'a> Iterator for Pieces<'a> {
 }
 
 /// The lines of a text. Each ends with a line feed, which the last may lack.
+#[tactic(auto, using(crate::proofs::Endings::no_lines, crate::proofs::Endings::last_ended, crate::proofs::Endings::last_open))]
 pub fn lines(text: &[u8]) -> Pieces<'_>
     ensures { to_come result ≡ lines_of text.now }
 {
@@ -69,6 +70,7 @@ fn with_digit(value: u8, byte: u8) -> Option<u8>
 }
 
 /// The number up to 255 that one to three decimal digits spell.
+#[tactic(auto, using(crate::proofs::Spelling::grows, crate::proofs::Spelling::next_digit, crate::proofs::Spelling::with_next, crate::proofs::Spelling::made_of))]
 pub fn number(text: &[u8]) -> Option<u8>
     ensures { MatchOption result ((n : ℕ) → Numeral text.now n → ⊥) (λ n. Numeral text.now n) }
 {
