@@ -19,6 +19,7 @@ pub fn add_line<S: Store<Line>>(store: &mut S, line: &[u8]) -> Result<u8, Refuse
 
 /// Clears the store, adds the lines of the text one after another, and writes what came of each. Answers how many
 /// keys are then held.
+#[tactic(auto, using(crate::proofs::Tallies::one_more, crate::proofs::Tallies::as_many))]
 pub fn tally<S: Store<Line>>(
     store: &mut S,
     text: &[u8],
