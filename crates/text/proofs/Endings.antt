@@ -1,5 +1,5 @@
 -- The lines of a text by its last byte.
-use Rattle.std.proofs.Common.{◌≡◌, ℕ, suc, ◌-◌, ◌<◌, false, cond, eqb, List, [], ◌∷◌, ◌++◌, length, get_or, take, sym, refl, ap, ◌∙◌, arith, ne_eqb}
+use Rattle.std.proofs.Common.{◌≡◌, ℕ, suc, ◌-◌, ◌<◌, cond, eqb, List, [], ◌∷◌, ◌++◌, length, get_or, take, sym, refl, ap, ◌∙◌, arith, ne_eqb}
 use Rattle.std.specs.List.{onto_first}
 use Rattle.std.proofs.Math.Seq.{take-suc}
 use Rattle.std.proofs.lemmas.List.{take_all}
@@ -12,9 +12,7 @@ ended (c ∷ cs) = ap (λ ps. cond (eqb c 10) ([] ∷ ps) (onto_first c ps)) (en
 
 open_ended : (text : List ℕ) (c : ℕ) → (c ≡ 10 → ⊥) → pieces 10 (text ++ (c ∷ [])) ≡ lines_of (text ++ (c ∷ []))
 unfolding lines_of
-open_ended [] c other =
-    let e : eqb c 10 ≡ false = ne_eqb c 10 other
-    in ap (λ b. cond b ([] ∷ [] ∷ []) ((c ∷ []) ∷ [])) e ∙ sym (ap (λ b. cond b ([] ∷ []) ((c ∷ []) ∷ [])) e)
+open_ended [] c other = simp (ne_eqb c 10 other) refl
 open_ended (x ∷ xs) c other = ap (λ ps. cond (eqb x 10) ([] ∷ ps) (onto_first x ps)) (open_ended xs c other)
 
 pub no_lines : (text : List ℕ) → length text < 1 → [] ≡ lines_of text
