@@ -1,14 +1,16 @@
 -- What an addition does to a tree.
-use Rattle.std.proofs.Common.{◌≡◌, ℕ, zero, suc, ◌+◌, ◌%◌, ◌^◌, ◌<◌, ◌≤◌, Bool, true, false, cond, eqb, ◌⊎◌, List, length, get_or, set, Some, Ordering, Equal, sym, refl, ap, ◌∙◌, subst, inl, inr, ⊎_elim, arith}
-use Rattle.std.proofs.lemmas.List.{get_or_default, get_or-set_same, get_or-set_other, get_or-map, length-map, length-set, set-get_or}
+use Rattle.std.proofs.Common.{◌≡◌, ℕ, zero, suc, ◌+◌, ◌%◌, ◌^◌, ◌<◌, ◌≤◌, Bool, true, false, cond, eqb, ◌⊎◌, List, length, get_or, set, Some, None, Option, Ordering, Equal, sym, refl, ap, ◌∙◌, subst, inl, inr, ⊎_elim, arith}
+use Rattle.std.proofs.lemmas.List.{get_or_default, get_or-set_same, get_or-set_other, get_or-map, length-map, length-set, map-set, set-get_or}
 use Rattle.std.proofs.lemmas.Bool.{cases_eq, both_ways, cond-true, cond-false, eq-eqb, ne_eqb}
+use Rattle.std.proofs.lemmas.Option.{none-some, same_Some}
 use Rattle.store.specs.Views.{Raised}
-use Rattle.store.specs.Cells.{Cell, vacant, occupied, is_held, holds, at, seen, Holding, Meets}
-use Rattle.store.specs.Trees.{entry, cells, taken, blank, to, way, onward, next, walk, Goes, Passes, Under, Ends, Grown}
+use Rattle.store.specs.Cells.{Cell, is_held, holds, at, seen, Holding, Meets}
+use Rattle.store.specs.Trees.{cells, taken, blank, follow, link, to, way, onward, next, walk, Goes, Passes, Under, Ends, Grown}
+use Rattle.store.specs.declared.store.Entry.{Entry}
 use Rattle.store.specs.declared.tree.Node.{Node}
 use Rattle.store.specs.declared.tree.Spot.TheVariants.{Root, Left, Right}
-use Rattle.store.proofs.Cells.{before, same_by, held_room, holds_held, inserted, inserted_raised, bumped, bumped_raised}
-use Rattle.store.proofs.Trees.{past_free, cells_set, entry_more, goes_held, onward_equal, cases_goes, next_way, on_way, walk_like, ended}
+use Rattle.store.proofs.Cells.{occupied, before, same_by, held_room, holds_held, inserted, inserted_raised, bumped, bumped_raised}
+use Rattle.store.proofs.Trees.{past_free, follow_like, goes_held, onward_equal, cases_goes, next_way, on_way, walk_like, ended}
 
 -- a link is as it was, or it led to no key and now leads to i
 abbrev Link : {K : Type 0} → List (Node K) → ℕ → ℕ → ℕ → Type 0
@@ -28,7 +30,7 @@ module _ {K : Type 0} (ord : K → K → Ordering) (xs ys : List (Node K)) (root
   not_new a t e = both_ways _ f.free (subst (λ b. taken xs b ≡ true) e t)
 
   same_cell : (a : ℕ) → taken xs a ≡ true → at (cells ys) a ≡ at (cells xs) a
-  same_cell a t = ap (λ cs. at cs a) f.cell ∙ get_or-set_other (cells xs) i a (occupied k 1) vacant (not_new a t)
+  same_cell a t = ap (λ cs. at cs a) f.cell ∙ get_or-set_other (cells xs) i a (occupied k 1) None (not_new a t)
 
   next_same : (q : K) (a : ℕ) → taken xs a ≡ true → taken xs (next ord xs q a) ≡ true → next ord ys q a ≡ next ord xs q a
   next_same q a t u =
@@ -54,13 +56,16 @@ module _ {K : Type 0} (ord : K → K → Ordering) (xs ys : List (Node K)) (root
       ap (next ord ys q) (walk_same q d u) ∙ next_same q (walk ord xs root q d) u t
 
 module _ {K : Type 0} (eq : K → K → Bool) (ord : K → K → Ordering) (refl' : (x : K) → eq x x ≡ true) (sym' : (x y : K) → eq x y ≡ true → eq y x ≡ true)
-    (trans' : (x y z : K) → eq x y ≡ true → eq y z ≡ true → eq x z ≡ true) (xs : List (Node K)) (root h : ℕ) (ok : Grown eq ord xs root h) where
-  -- the tree and its view after a key was added
+    (trans' : (x y z : K) → eq x y ≡ true → eq y z ≡ true → eq x z ≡ true) (xs : List (Node K)) (r : Option ℕ) (h : ℕ) (ok : Grown eq ord xs (follow xs r) h) where
+  abbrev root : ℕ
+  root = follow xs r
+
+  -- the tree, how many nodes it has, and its view, after a key was added
   abbrev After : K → List (Node K) → ℕ → ℕ → Type 0
-  After k ys start h' = Grown eq ord ys start h' × Raised eq (seen eq (length xs) (cells xs) h) (seen eq (length ys) (cells ys) h') k
+  After k ys start h' = Grown eq ord ys start h' × (length ys ≡ length xs) × Raised eq (seen eq (cells xs)) (seen eq (cells ys)) k
 
   long : length (cells xs) ≡ length xs
-  long = length-map xs (λ x. entry x.key x.count)
+  long = length-map xs (λ x. x.entry)
 
   module _ (ys : List (Node K)) (start i : ℕ) (k : K) (f : Frame xs ys root start i k) (d : ℕ) (within : d < length xs)
       (none : (j : ℕ) → holds eq k (at (cells xs) j) ≡ true → ⊥) (come : (y : K) → eq k y ≡ true → walk ord ys start y d ≡ i) where
@@ -68,13 +73,13 @@ module _ {K : Type 0} (eq : K → K → Bool) (ord : K → K → Ordering) (refl
     il = omega (arith, f.inside, long)
 
     same_long : length ys ≡ length xs
-    same_long = sym (length-map ys (λ x. entry x.key x.count)) ∙ ap length f.cell ∙ length-set (cells xs) i (occupied k 1) ∙ long
+    same_long = sym (length-map ys (λ x. x.entry)) ∙ ap length f.cell ∙ length-set (cells xs) i (occupied k 1) ∙ long
 
     was : (P : Cell K → Type 0) (a : ℕ) → P (at (cells ys) a) → ((a ≡ i) × P (occupied k 1)) ⊎ ((a ≡ i → ⊥) × P (at (cells xs) a))
     was P a p = before P (cells xs) i a (occupied k 1) il (subst (λ cs. P (at cs a)) f.cell p)
 
     here : taken ys i ≡ true
-    here = ap (λ cs. is_held (at cs i)) f.cell ∙ ap is_held (get_or-set_same (cells xs) i (occupied k 1) vacant il)
+    here = ap (λ cs. is_held (at cs i)) f.cell ∙ ap is_held (get_or-set_same (cells xs) i (occupied k 1) None il)
 
     keeps : (a : ℕ) → taken xs a ≡ true → taken ys a ≡ true
     keeps a t = ap is_held (same_cell ord xs ys root start i k f a t) ∙ t
@@ -94,7 +99,7 @@ module _ {K : Type 0} (eq : K → K → Bool) (ord : K → K → Ordering) (refl
     grown : Grown eq ord ys start (h + 1)
     grown =
         record {
-          holding = subst (λ cs. Holding eq cs (h + 1)) (sym f.cell) (inserted eq sym' trans' (length xs) (cells xs) h ok.holding i il k f.free none);
+          holding = subst (λ cs. Holding eq cs (h + 1)) (sym f.cell) (inserted eq sym' trans' (cells xs) h ok.holding i il k f.free none);
           top = λ l. ⊎_elim
               (λ (e : start ≡ root). subst (λ a. taken ys a ≡ true) (sym e) (keeps root (ok.top (omega (arith, same_long)))))
               (λ (e : (start ≡ i) × (taken xs root ≡ false)). subst (λ a. taken ys a ≡ true) (sym e.0) here)
@@ -135,33 +140,35 @@ module _ {K : Type 0} (eq : K → K → Bool) (ord : K → K → Ordering) (refl
     grown_raised : length xs < 2 ^ 64 → After k ys start ((h + 1) % 2 ^ 64)
     grown_raised small =
         let fits : h + 1 ≡ (h + 1) % 2 ^ 64 = omega (arith, held_room (cells xs) i k il f.free, ok.holding.number, long) in
-        let seen-raised : Raised eq (seen eq (length xs) (cells xs) h) (seen eq (length ys) (cells ys) (h + 1)) k =
-        subst (λ n. Raised eq (seen eq (length xs) (cells xs) h) (seen eq n (cells ys) (h + 1)) k) (sym same_long)
-        (subst (λ cs. Raised eq (seen eq (length xs) (cells xs) h) (seen eq (length xs) cs (h + 1)) k) (sym f.cell)
-        (inserted_raised eq sym' trans' (length xs) (cells xs) h ok.holding i il k f.free none long)) in
-        subst (λ h'. After k ys start h') fits (grown, seen-raised)
+        let seen-raised : Raised eq (seen eq (cells xs)) (seen eq (cells ys)) k =
+        subst (λ cs. Raised eq (seen eq (cells xs)) (seen eq cs) k) (sym f.cell) (inserted_raised eq sym' trans' (cells xs) h ok.holding i il k f.free none) in
+        subst (λ h'. After k ys start h') fits (grown, same_long, seen-raised)
 
-  module _ (k : K) (i m : ℕ) (inside : i < length xs) (free : taken xs i ≡ false) (past : length xs ≤ m) (small : length xs < 2 ^ 64) where
+  module _ (k : K) (i : ℕ) (inside : i < length xs) (free : taken xs i ≡ false) (small : length xs < 2 ^ 64) where
     abbrev new : Node K
-    new = record { key = Some k; count = 1; left = m; right = m }
+    new = record { entry = occupied k 1; left = None; right = None }
 
     abbrev base : List (Node K)
     base = set xs i new
 
-    past_both : (s : Bool) → length xs ≤ cond s m m
-    past_both true = past
-    past_both false = past
+    no_link_of : (s : Bool) → link new s ≡ None
+    no_link_of true = refl
+    no_link_of false = refl
 
-    pub add_root : Ends eq ord xs root k Root → After k base i ((h + 1) % 2 ^ 64)
+    other_node : (a : ℕ) → taken xs a ≡ true → get_or base a blank ≡ get_or xs a blank
+    other_node a t = get_or-set_other xs i a new blank (λ e. both_ways _ free (subst (λ b. taken xs b ≡ true) e t))
+
+    pub add_root : Ends eq ord xs root k Root → After k base (follow base (Some i)) ((h + 1) % 2 ^ 64)
     add_root end =
         let nowhere : taken xs root ≡ false = subst (λ e. taken xs (walk ord xs root k e) ≡ false) end.comes end.nothing in
+        let same : length base ≡ length xs = length-set xs i new in
         let f : Frame xs base root i i k =
         record {
           inside = inside;
           free = free;
-          cell = cells_set xs i new;
-          kept = λ a s t. inl (ap (λ x. cond s x.left x.right) (get_or-set_other xs i a new blank (λ e. both_ways _ free (subst (λ b. taken xs b ≡ true) e t))));
-          fresh = λ s. subst (λ x. length xs ≤ cond s x.left x.right) (sym (get_or-set_same xs i new blank inside)) (past_both s);
+          cell = map-set (λ x. x.entry) xs i new;
+          kept = λ a s t. inl (follow_like xs base (link (get_or base a blank) s) same ∙ ap (λ x. follow xs (link x s)) (other_node a t));
+          fresh = λ s. omega (arith, same, ap (λ x. follow base (link x s)) (get_or-set_same xs i new blank inside), ap (follow base) (no_link_of s));
           begin = inr (refl, nowhere);
         } in
         grown_raised base i i k f end.steps end.within (ended eq ord xs refl' root k h ok end.steps end.nothing end.passed)
@@ -169,10 +176,13 @@ module _ {K : Type 0} (eq : K → K → Bool) (ord : K → K → Ordering) (refl
 
     -- the node at p gets a link to the new one
     module _ (d p : ℕ) (b : Bool) (u : Node K) (within : d < length xs) (nothing : taken xs (walk ord xs root k d) ≡ false) (passed : Passes eq ord xs root k d)
-        (un : Under eq ord xs root k d p b) (same : entry u.key u.count ≡ at (cells xs) p) (linked : cond b u.left u.right ≡ i)
-        (other : (s : Bool) → (cond s u.left u.right ≡ to xs p s) ⊎ (s ≡ b)) where
+        (un : Under eq ord xs root k d p b) (same : u.entry ≡ at (cells xs) p) (linked : link u b ≡ Some i)
+        (other : (s : Bool) → (link u s ≡ link (get_or xs p blank) s) ⊎ (s ≡ b)) where
       abbrev ys : List (Node K)
       ys = set base p u
+
+      as_long : length ys ≡ length xs
+      as_long = length-set base p u ∙ length-set xs i new
 
       p_taken : taken xs p ≡ true
       p_taken = goes_held ord k (at (cells xs) p) (way b) (un.turns.goes k (refl' k))
@@ -188,75 +198,82 @@ module _ {K : Type 0} (eq : K → K → Bool) (ord : K → K → Ordering) (refl
       in_base : p < length base
       in_base = omega (arith, un.inside, length-set xs i new)
 
-      to_p : (s : Bool) → to ys p s ≡ cond s u.left u.right
-      to_p s = ap (λ x. cond s x.left x.right) (get_or-set_same base p u blank in_base)
+      to_p : (s : Bool) → to ys p s ≡ follow ys (link u s)
+      to_p s = ap (λ x. follow ys (link x s)) (get_or-set_same base p u blank in_base)
 
-      frame : Frame xs ys root root i k
+      to_new : to ys p b ≡ i
+      to_new = to_p b ∙ ap (follow ys) linked
+
+      frame : Frame xs ys root (follow ys r) i k
       frame =
           record {
             inside = inside;
             free = free;
             cell =
-                cells_set base p u ∙ ap (λ cs. set cs p (entry u.key u.count)) (cells_set xs i new)
-                ∙ ap (set (set (cells xs) i (occupied k 1)) p) (same ∙ sym (get_or-set_other (cells xs) i p (occupied k 1) vacant apart))
-                ∙ set-get_or (set (cells xs) i (occupied k 1)) p vacant;
+                map-set (λ x. x.entry) base p u ∙ ap (λ cs. set cs p u.entry) (map-set (λ x. x.entry) xs i new)
+                ∙ ap (set (set (cells xs) i (occupied k 1)) p) (same ∙ sym (get_or-set_other (cells xs) i p (occupied k 1) None apart))
+                ∙ set-get_or (set (cells xs) i (occupied k 1)) p None;
             kept = λ a s t. ⊎_elim
                 (λ (e : a ≡ p). subst (λ j. Link xs i (to xs j s) (to ys j s)) (sym e)
                 (⊎_elim
-                (λ (l : cond s u.left u.right ≡ to xs p s). inl (to_p s ∙ l))
-                (λ (l : s ≡ b). inr (to_p s ∙ ap (λ z. cond z u.left u.right) l ∙ linked, subst (λ z. taken xs (to xs p z) ≡ false) (sym l) nowhere))
+                (λ (l : link u s ≡ link (get_or xs p blank) s). inl (to_p s ∙ ap (follow ys) l ∙ follow_like xs ys (link (get_or xs p blank) s) as_long))
+                (λ (l : s ≡ b). inr (subst (λ z. to ys p z ≡ i) (sym l) to_new, subst (λ z. taken xs (to xs p z) ≡ false) (sym l) nowhere))
                 (other s)))
-                (λ (ne : a ≡ p → ⊥). inl (ap (λ x. cond s x.left x.right)
-                (get_or-set_other base p a u blank ne ∙ get_or-set_other xs i a new blank (λ e. both_ways _ free (subst (λ j. taken xs j ≡ true) e t)))))
+                (λ (ne : a ≡ p → ⊥). inl (follow_like xs ys (link (get_or ys a blank) s) as_long ∙ ap (λ x. follow xs (link x s)) (get_or-set_other base p a u blank ne ∙ other_node a t)))
                 (cases_eq a p);
-            fresh = λ s. subst (λ x. length xs ≤ cond s x.left x.right)
-                (sym (get_or-set_other base p i u blank (λ e. apart (sym e)) ∙ get_or-set_same xs i new blank inside)) (past_both s);
-            begin = inl refl;
+            fresh = λ s. omega (
+              arith,
+              as_long,
+              ap (λ x. follow ys (link x s)) (get_or-set_other base p i u blank (λ e. apart (sym e)) ∙ get_or-set_same xs i new blank inside),
+              ap (follow ys) (no_link_of s),
+            );
+            begin = inl (follow_like xs ys r as_long);
           }
 
-      pub add_under : After k ys root ((h + 1) % 2 ^ 64)
+      pub add_under : After k ys (follow ys r) ((h + 1) % 2 ^ 64)
       add_under =
-          grown_raised ys root i k frame d within (ended eq ord xs refl' root k h ok d nothing passed)
+          grown_raised ys (follow ys r) i k frame d within (ended eq ord xs refl' root k h ok d nothing passed)
           (λ y l.
           let at_p : walk ord xs root y un.before ≡ p = walk_like eq ord xs refl' root k d passed y l un.before (omega (arith, un.last)) ∙ sym un.there in
-          ap (walk ord ys root y) un.last
-          ∙ ap (next ord ys y) (walk_same ord xs ys root root i k frame y un.before (subst (λ a. taken xs a ≡ true) (sym at_p) p_taken) ∙ at_p)
-          ∙ next_way ord y ys p b (subst (λ s. Goes ord y s (way b)) (sym (same_cell ord xs ys root root i k frame p p_taken)) (un.turns.goes y l))
-          ∙ to_p b ∙ linked)
+          ap (walk ord ys (follow ys r) y) un.last
+          ∙ ap (next ord ys y) (walk_same ord xs ys root (follow ys r) i k frame y un.before (subst (λ a. taken xs a ≡ true) (sym at_p) p_taken) ∙ at_p)
+          ∙ next_way ord y ys p b (subst (λ s. Goes ord y s (way b)) (sym (same_cell ord xs ys root (follow ys r) i k frame p p_taken)) (un.turns.goes y l))
+          ∙ to_new)
           small
 
     -- what stands at p once the new node is written
-    still : (p : ℕ) (r : Node K) → p < length xs → taken xs p ≡ true → get_or base p r ≡ get_or xs p blank
-    still p r l t =
-        get_or_default base p r blank (omega (arith, length-set xs i new)) ∙ get_or-set_other xs i p new blank (λ e. both_ways _ free (subst (λ a. taken xs a ≡ true) e t))
+    still : (p : ℕ) (w : Node K) → p < length xs → taken xs p ≡ true → get_or base p w ≡ get_or xs p blank
+    still p w l t = get_or_default base p w blank (omega (arith, length-set xs i new)) ∙ other_node p t
 
-    still_cell : (p : ℕ) (r : Node K) → p < length xs → taken xs p ≡ true → entry (get_or base p r).key (get_or base p r).count ≡ at (cells xs) p
-    still_cell p r l t = ap (λ x. entry x.key x.count) (still p r l t) ∙ sym (get_or-map (λ x. entry x.key x.count) xs p blank vacant l)
+    still_cell : (p : ℕ) (w : Node K) → p < length xs → taken xs p ≡ true → (get_or base p w).entry ≡ at (cells xs) p
+    still_cell p w l t = ap (λ x. x.entry) (still p w l t) ∙ sym (get_or-map (λ x. x.entry) xs p blank None l)
 
-    pub add_left : (p : ℕ) (r : Node K) → Ends eq ord xs root k (Left p)
-        → After k (set base p (record { key = (get_or base p r).key; count = (get_or base p r).count; left = i; right = (get_or base p r).right })) root ((h + 1) % 2 ^ 64)
-    add_left p r end =
+    pub add_left : (p : ℕ) (w : Node K) → Ends eq ord xs root k (Left p)
+        → After k (set base p (record { entry = (get_or base p w).entry; left = Some i; right = (get_or base p w).right }))
+        (follow (set base p (record { entry = (get_or base p w).entry; left = Some i; right = (get_or base p w).right })) r) ((h + 1) % 2 ^ 64)
+    add_left p w end =
         let un : Under eq ord xs root k end.steps p true = end.comes in
         let t : taken xs p ≡ true = goes_held ord k (at (cells xs) p) (way true) (un.turns.goes k (refl' k)) in
-        let e : (get_or base p r).right ≡ (get_or xs p blank).right = ap (λ x. x.right) (still p r un.inside t) in
-        add_under end.steps p true (record { key = (get_or base p r).key; count = (get_or base p r).count; left = i; right = (get_or base p r).right })
-        end.within end.nothing end.passed un (still_cell p r un.inside t) refl
-        (λ s. elim s as (λ z. (cond z i (get_or base p r).right ≡ to xs p z) ⊎ (z ≡ true)) [ true ↦ inr refl | false ↦ inl e ])
+        let e : (get_or base p w).right ≡ (get_or xs p blank).right = ap (λ x. x.right) (still p w un.inside t) in
+        add_under end.steps p true (record { entry = (get_or base p w).entry; left = Some i; right = (get_or base p w).right })
+        end.within end.nothing end.passed un (still_cell p w un.inside t) refl
+        (λ s. elim s as (λ z. (cond z (Some i) (get_or base p w).right ≡ link (get_or xs p blank) z) ⊎ (z ≡ true)) [ true ↦ inr refl | false ↦ inl e ])
 
-    pub add_right : (p : ℕ) (r : Node K) → Ends eq ord xs root k (Right p)
-        → After k (set base p (record { key = (get_or base p r).key; count = (get_or base p r).count; left = (get_or base p r).left; right = i })) root ((h + 1) % 2 ^ 64)
-    add_right p r end =
+    pub add_right : (p : ℕ) (w : Node K) → Ends eq ord xs root k (Right p)
+        → After k (set base p (record { entry = (get_or base p w).entry; left = (get_or base p w).left; right = Some i }))
+        (follow (set base p (record { entry = (get_or base p w).entry; left = (get_or base p w).left; right = Some i })) r) ((h + 1) % 2 ^ 64)
+    add_right p w end =
         let un : Under eq ord xs root k end.steps p false = end.comes in
         let t : taken xs p ≡ true = goes_held ord k (at (cells xs) p) (way false) (un.turns.goes k (refl' k)) in
-        let e : (get_or base p r).left ≡ (get_or xs p blank).left = ap (λ x. x.left) (still p r un.inside t) in
-        add_under end.steps p false (record { key = (get_or base p r).key; count = (get_or base p r).count; left = (get_or base p r).left; right = i })
-        end.within end.nothing end.passed un (still_cell p r un.inside t) refl
-        (λ s. elim s as (λ z. (cond z (get_or base p r).left i ≡ to xs p z) ⊎ (z ≡ false)) [ true ↦ inl e | false ↦ inr refl ])
+        let e : (get_or base p w).left ≡ (get_or xs p blank).left = ap (λ x. x.left) (still p w un.inside t) in
+        add_under end.steps p false (record { entry = (get_or base p w).entry; left = (get_or base p w).left; right = Some i })
+        end.within end.nothing end.passed un (still_cell p w un.inside t) refl
+        (λ s. elim s as (λ z. (cond z (get_or base p w).left (Some i) ≡ link (get_or xs p blank) z) ⊎ (z ≡ false)) [ true ↦ inl e | false ↦ inr refl ])
 
   -- a count is raised in place
-  module _ (k : K) (i c : ℕ) (r : Node K) (m : Meets eq (length xs) (cells xs) k i c) (lt : c < 255) where
+  module _ (k : K) (i c : ℕ) (w : Node K) (m : Meets eq (length xs) (cells xs) k i c) (lt : c < 255) where
     abbrev more : Node K
-    more = record { key = (get_or xs i r).key; count = c + 1; left = (get_or xs i r).left; right = (get_or xs i r).right }
+    more = record { entry = occupied m.found (c + 1); left = (get_or xs i w).left; right = (get_or xs i w).right }
 
     abbrev zs : List (Node K)
     zs = set xs i more
@@ -265,10 +282,7 @@ module _ {K : Type 0} (eq : K → K → Bool) (ord : K → K → Ordering) (refl
     in_cells = omega (arith, m.inside, long)
 
     more_cells : cells zs ≡ set (cells xs) i (occupied m.found (c + 1))
-    more_cells =
-        cells_set xs i more
-        ∙ ap (set (cells xs) i)
-        (entry_more (get_or xs i r).key m.found (get_or xs i r).count c (c + 1) (sym (get_or-map (λ x. entry x.key x.count) xs i r vacant m.inside) ∙ m.there))
+    more_cells = map-set (λ x. x.entry) xs i more
 
     -- what does not look at the count is as it was
     same_of : {B : Type 0} (F : Cell K → B) → F (occupied m.found (c + 1)) ≡ F (occupied m.found c) → (a : ℕ) → F (at (cells zs) a) ≡ F (at (cells xs) a)
@@ -277,10 +291,10 @@ module _ {K : Type 0} (eq : K → K → Bool) (ord : K → K → Ordering) (refl
 
     same_to : (a : ℕ) (s : Bool) → to zs a s ≡ to xs a s
     same_to a s =
-        ⊎_elim
-        (λ (e : a ≡ i). subst (λ b. to zs b s ≡ to xs b s) (sym e)
-        (ap (λ x. cond s x.left x.right) (get_or-set_same xs i more blank m.inside) ∙ ap (λ x. cond s x.left x.right) (get_or_default xs i r blank m.inside)))
-        (λ (ne : a ≡ i → ⊥). ap (λ x. cond s x.left x.right) (get_or-set_other xs i a more blank ne))
+        follow_like xs zs (link (get_or zs a blank) s) (length-set xs i more) ∙ ⊎_elim
+        (λ (e : a ≡ i). subst (λ b. follow xs (link (get_or zs b blank) s) ≡ to xs b s) (sym e)
+        (ap (λ x. follow xs (link x s)) (get_or-set_same xs i more blank m.inside) ∙ ap (λ x. follow xs (link x s)) (get_or_default xs i w blank m.inside)))
+        (λ (ne : a ≡ i → ⊥). ap (λ x. follow xs (link x s)) (get_or-set_other xs i a more blank ne))
         (cases_eq a i)
 
     same_next : (q : K) (a : ℕ) → next ord zs q a ≡ next ord xs q a
@@ -292,14 +306,14 @@ module _ {K : Type 0} (eq : K → K → Bool) (ord : K → K → Ordering) (refl
     same_walk q zero = refl
     same_walk q (suc d) = ap (next ord zs q) (same_walk q d) ∙ same_next q (walk ord xs root q d)
 
-    pub counted : After k zs root h
-    counted =
+    counted_at : After k zs root h
+    counted_at =
         let zl : length zs ≡ length xs = length-set xs i more in
         let back : (a : ℕ) → taken zs a ≡ true → taken xs a ≡ true = λ a t. sym (same_of is_held refl a) ∙ t in
         let back_to : (a : ℕ) (s : Bool) → taken zs (to zs a s) ≡ true → taken xs (to xs a s) ≡ true =
         λ a s t. subst (λ b. taken xs b ≡ true) (same_to a s) (back (to zs a s) t) in (
           record {
-            holding = subst (λ cs. Holding eq cs h) (sym more_cells) (bumped eq sym' trans' (length xs) (cells xs) h ok.holding i in_cells m.found m.found c m.there (refl' m.found) lt);
+            holding = subst (λ cs. Holding eq cs h) (sym more_cells) (bumped eq sym' trans' (cells xs) h ok.holding i in_cells m.found c m.there lt);
             top = λ l. same_of is_held refl root ∙ ok.top (omega arith);
             links = λ a s t l. same_of is_held refl (to zs a s) ∙ subst (λ b. taken xs b ≡ true) (sym (same_to a s)) (ok.links a s (back a t) (omega (arith, same_to a s)));
             rank = ok.rank;
@@ -309,7 +323,22 @@ module _ {K : Type 0} (eq : K → K → Bool) (ord : K → K → Ordering) (refl
                 let w = ok.reach q j (sym (same_of (holds eq q) refl j) ∙ t) in
                 (w.0, omega (arith, w.1), w.2 ∙ sym (same_walk q w.0));
           },
-          subst (λ n. Raised eq (seen eq (length xs) (cells xs) h) (seen eq n (cells zs) h) k) (sym zl)
-              (subst (λ cs. Raised eq (seen eq (length xs) (cells xs) h) (seen eq (length xs) cs h) k) (sym more_cells)
-              (bumped_raised eq sym' trans' (length xs) (cells xs) h ok.holding i in_cells m.found m.found c m.there (refl' m.found) lt k m.same)),
+          length-set xs i more,
+          subst (λ cs. Raised eq (seen eq (cells xs)) (seen eq cs) k) (sym more_cells) (bumped_raised eq sym' trans' (cells xs) h ok.holding i in_cells m.found c m.there lt k m.same),
         )
+
+    pub counted : After k zs (follow zs r) h
+    counted = subst (λ a. After k zs a h) (sym (follow_like xs zs r (length-set xs i more))) counted_at
+
+  -- the node that is met, with a count of one more
+  pub counted_in : (k : K) (i c : ℕ) (w : Node K) → Meets eq (length xs) (cells xs) k i c → c < 255 → (e : Entry K) → (get_or xs i w).entry ≡ Some e
+      → After k (set xs i (record { entry = Some (record { key = e.key; count = c + 1 }); left = (get_or xs i w).left; right = (get_or xs i w).right }))
+      (follow (set xs i (record { entry = Some (record { key = e.key; count = c + 1 }); left = (get_or xs i w).left; right = (get_or xs i w).right })) r) h
+  counted_in k i c w m lt e is =
+      let same : e ≡ record { key = m.found; count = c } = same_Some e (record { key = m.found; count = c }) (sym is ∙ sym (get_or-map (λ x. x.entry) xs i w None m.inside) ∙ m.there) in
+      subst (λ x. After k (set xs i (record { entry = Some (record { key = x; count = c + 1 }); left = (get_or xs i w).left; right = (get_or xs i w).right }))
+      (follow (set xs i (record { entry = Some (record { key = x; count = c + 1 }); left = (get_or xs i w).left; right = (get_or xs i w).right })) r) h)
+      (sym (ap (λ x. x.key) same)) (counted k i c w m lt)
+
+  pub not_free : (k : K) (i c : ℕ) (w : Node K) → Meets eq (length xs) (cells xs) k i c → (get_or xs i w).entry ≡ None → ⊥
+  not_free k i c w m is = none-some (record { key = m.found; count = c }) (sym is ∙ sym (get_or-map (λ x. x.entry) xs i w None m.inside) ∙ m.there)

@@ -1,70 +1,69 @@
 -- Probes of a table.
-use Rattle.std.proofs.Common.{◌≡◌, ℕ, ◌+◌, ◌%◌, ◌^◌, ◌<◌, ◌≤◌, Bool, true, false, eqb, List, length, get_or, set, sym, refl, ap, ◌∙◌, subst, ⊎_elim, mod-lt, arith, below_more}
+use Rattle.std.proofs.Common.{◌≡◌, ℕ, ◌+◌, ◌%◌, ◌^◌, ◌<◌, ◌≤◌, Bool, true, false, eqb, List, length, Some, None, Option, get_or, set, sum_by, sym, refl, ap, ◌∙◌, subst, ⊎_elim, mod-lt, arith, below_more}
 use Rattle.std.proofs.lemmas.List.{get_or-set_same, get_or-set_other, get_or_past, get_or-map, length-map, length-set, map-set}
-use Rattle.std.proofs.lemmas.Bool.{cases_lt, cases_eq, cases_order, cond-true, cond-false, both_ways, eq-eqb, ne_eqb}
-use Rattle.store.specs.Views.{Raised, Empty}
-use Rattle.store.specs.Cells.{Cell, vacant, occupied, is_free, is_held, holds, at, seen, Meets}
-use Rattle.store.specs.Probes.{cell, cells, mark_of, Marked, place, Reach, Sound, Passed, Opens}
-use Rattle.store.specs.declared.table.Slot.{Slot}
-use Rattle.store.specs.declared.table.Slot.TheVariants.{Free, Held}
+use Rattle.std.proofs.lemmas.Bool.{cases_lt, cases_eq, cases_order, cases_Bool, cond-true, cond-false, both_ways, eq-eqb, eqb-true, ne_eqb}
+use Rattle.std.proofs.lemmas.Option.{none-some, same_Some}
+use Rattle.store.specs.Views.{Raised, Empty, counted}
+use Rattle.store.specs.Cells.{Cell, is_free, is_held, holds, share, at, seen, Meets}
+use Rattle.store.specs.Probes.{cell, cells, mark_of, Marked, place, Reach, Sound, Passed, Opens, Finds}
+use Rattle.store.specs.declared.store.Found.{Found}
+use Rattle.store.specs.declared.store.Found.TheVariants.{At, Open, Nowhere}
+use Rattle.store.specs.declared.store.Entry.{Entry}
+use Rattle.store.specs.declared.table.Held.{Held}
 use Rattle.store.proofs.Ring.{place_once, place_back}
-use Rattle.store.proofs.Cells.{free_held, full_held, in_range, after, before, same_by, held_room, holds_held, cleared, eq_like, inserted, inserted_raised, bumped, bumped_raised}
+use Rattle.store.proofs.Cells.{occupied, free_held, full_held, in_range, after, before, same_by, held_room, holds_held, absent, met_count, cleared, inserted, inserted_raised, bumped, bumped_raised}
 
 module _ {K : Type 0} where
-  pub cell_now : (g : ℕ) (k : K) (c m : ℕ) → m ≡ g → cell g (Held k c m) ≡ occupied k c
-  cell_now g k c m e = cond-true (eqb m g) (occupied k c) vacant (eq-eqb m g e)
+  pub cell_now : (g : ℕ) (s : Held K) → s.generation ≡ g → cell g (Some s) ≡ Some s.entry
+  cell_now g s e = cond-true (eqb s.generation g) (Some s.entry) None (eq-eqb s.generation g e)
 
-  pub cell_past : (g : ℕ) (k : K) (c m : ℕ) → (m ≡ g → ⊥) → cell g (Held k c m) ≡ vacant
-  cell_past g k c m ne = cond-false (eqb m g) (occupied k c) vacant (ne_eqb m g ne)
+  pub cell_past : (g : ℕ) (s : Held K) → (s.generation ≡ g → ⊥) → cell g (Some s) ≡ None
+  cell_past g s ne = cond-false (eqb s.generation g) (Some s.entry) None (ne_eqb s.generation g ne)
 
-  pub at_cell : (g : ℕ) (xs : List (Slot K)) (i : ℕ) (r : Slot K) → i < length xs → at (cells g xs) i ≡ cell g (get_or xs i r)
-  at_cell g xs i r l = get_or-map (cell g) xs i r vacant l
+  pub at_cell : (g : ℕ) (xs : List (Option (Held K))) (i : ℕ) (r : Option (Held K)) → i < length xs → at (cells g xs) i ≡ cell g (get_or xs i r)
+  at_cell g xs i r l = get_or-map (cell g) xs i r None l
 
-  -- a node that was read, by what it turned out to be
-  pub at_is : (g : ℕ) (xs : List (Slot K)) (i : ℕ) (s t : Slot K) → i < length xs → s ≡ get_or xs i s → s ≡ t → at (cells g xs) i ≡ cell g t
-  at_is g xs i s t l e f = at_cell g xs i s l ∙ ap (cell g) (sym e ∙ f)
-
-  old_vacant : (g h : ℕ) (s : Slot K) → mark_of s ≤ h → h < g → is_held (cell g s) ≡ false
-  old_vacant g h Free l m = refl
-  old_vacant g h (Held k c n) l m = ap is_held (cell_past g k c n (λ e. omega arith))
+  old_vacant : (g h : ℕ) (s : Option (Held K)) → mark_of s ≤ h → h < g → is_held (cell g s) ≡ false
+  old_vacant g h None l m = refl
+  old_vacant g h (Some s) l m = ap is_held (cell_past g s (λ e. omega arith))
 
   past_vacant : (cs : List (Cell K)) (i : ℕ) → length cs ≤ i → is_held (at cs i) ≡ false
-  past_vacant cs i l = ap is_held (get_or_past cs i vacant l)
+  past_vacant cs i l = ap is_held (get_or_past cs i None l)
 
   -- no node is of a generation that is to come
-  pub next_vacant : (g h : ℕ) (xs : List (Slot K)) → Marked h xs → h < g → (i : ℕ) → is_held (at (cells g xs) i) ≡ false
+  pub next_vacant : (g h : ℕ) (xs : List (Option (Held K))) → Marked h xs → h < g → (i : ℕ) → is_held (at (cells g xs) i) ≡ false
   next_vacant g h xs marks l i =
       ⊎_elim
-      (λ (m : i < length xs). ap is_held (at_cell g xs i Free m) ∙ old_vacant g h (get_or xs i Free) (marks i) l)
+      (λ (m : i < length xs). ap is_held (at_cell g xs i None m) ∙ old_vacant g h (get_or xs i None) (marks i) l)
       (λ (m : length xs ≤ i). past_vacant (cells g xs) i (omega (arith, length-map xs (cell g))))
       (cases_lt i (length xs))
 
-  pub free_vacant : (g : ℕ) (xs : List (Slot K)) → ((i : ℕ) → i < length xs → get_or xs i Free ≡ Free) → (i : ℕ) → is_held (at (cells g xs) i) ≡ false
+  pub free_vacant : (g : ℕ) (xs : List (Option (Held K))) → ((i : ℕ) → i < length xs → get_or xs i None ≡ None) → (i : ℕ) → is_held (at (cells g xs) i) ≡ false
   free_vacant g xs free i =
       ⊎_elim
-      (λ (m : i < length xs). ap is_held (at_cell g xs i Free m ∙ ap (cell g) (free i m)))
+      (λ (m : i < length xs). ap is_held (at_cell g xs i None m ∙ ap (cell g) (free i m)))
       (λ (m : length xs ≤ i). past_vacant (cells g xs) i (omega (arith, length-map xs (cell g))))
       (cases_lt i (length xs))
 
-  pub free_marked : (g : ℕ) (xs : List (Slot K)) → ((i : ℕ) → i < length xs → get_or xs i Free ≡ Free) → Marked g xs
+  pub free_marked : (g : ℕ) (xs : List (Option (Held K))) → ((i : ℕ) → i < length xs → get_or xs i None ≡ None) → Marked g xs
   free_marked g xs free i =
       ⊎_elim
       (λ (m : i < length xs). omega (arith, ap mark_of (free i m)))
-      (λ (m : length xs ≤ i). omega (arith, ap mark_of (get_or_past xs i Free m)))
+      (λ (m : length xs ≤ i). omega (arith, ap mark_of (get_or_past xs i None m)))
       (cases_lt i (length xs))
 
-  pub free_more : (xs : List (Slot K)) (i : ℕ) → i < length xs → ((k : ℕ) → k < i → get_or xs k Free ≡ Free) → (k : ℕ) → k < i + 1 → get_or (set xs i Free) k Free ≡ Free
+  pub free_more : (xs : List (Option (Held K))) (i : ℕ) → i < length xs → ((k : ℕ) → k < i → get_or xs k None ≡ None) → (k : ℕ) → k < i + 1 → get_or (set xs i None) k None ≡ None
   free_more xs i l old k m =
       ⊎_elim
-      (λ (e : k ≡ i). subst (λ j. get_or (set xs i Free) j Free ≡ Free) (sym e) (get_or-set_same xs i Free Free l))
-      (λ (ne : k ≡ i → ⊥). get_or-set_other xs i k Free Free ne ∙ old k (omega arith))
+      (λ (e : k ≡ i). subst (λ j. get_or (set xs i None) j None ≡ None) (sym e) (get_or-set_same xs i None None l))
+      (λ (ne : k ≡ i → ⊥). get_or-set_other xs i k None None ne ∙ old k (omega arith))
       (cases_eq k i)
 
-  pub set_marked : (g : ℕ) (xs : List (Slot K)) (i : ℕ) (s : Slot K) → i < length xs → mark_of s ≤ g → Marked g xs → Marked g (set xs i s)
+  pub set_marked : (g : ℕ) (xs : List (Option (Held K))) (i : ℕ) (s : Option (Held K)) → i < length xs → mark_of s ≤ g → Marked g xs → Marked g (set xs i s)
   set_marked g xs i s l m old j =
       ⊎_elim
-      (λ (e : j ≡ i). subst (λ a. mark_of (get_or (set xs i s) a Free) ≤ g) (sym e) (subst (λ t. mark_of t ≤ g) (sym (get_or-set_same xs i s Free l)) m))
-      (λ (ne : j ≡ i → ⊥). subst (λ t. mark_of t ≤ g) (sym (get_or-set_other xs i j s Free ne)) (old j))
+      (λ (e : j ≡ i). subst (λ a. mark_of (get_or (set xs i s) a None) ≤ g) (sym e) (subst (λ t. mark_of t ≤ g) (sym (get_or-set_same xs i s None l)) m))
+      (λ (ne : j ≡ i → ⊥). subst (λ t. mark_of t ≤ g) (sym (get_or-set_other xs i j s None ne)) (old j))
       (cases_eq j i)
 
 module _ {K : Type 0} (eq : K → K → Bool) where
@@ -77,7 +76,7 @@ module _ {K : Type 0} (eq : K → K → Bool) where
 
   -- a place that a probe has come to
   module _ (spread : K → ℕ) (n : ℕ) (cs : List (Cell K)) (q : K) (s d i : ℕ) (e : s ≡ spread q) (there : i ≡ place n (s % n) d) (old : Passed eq n cs q (s % n) d) where
-    pub opens : i < n → d < n → at cs i ≡ vacant → ((y : K) → eq q y ≡ true → spread y ≡ s) → Opens eq spread n cs q i
+    pub opens : i < n → d < n → at cs i ≡ None → ((y : K) → eq q y ≡ true → spread y ≡ s) → Opens eq spread n cs q i
     opens il dl is like =
         record {
           inside = il;
@@ -94,7 +93,10 @@ module _ {K : Type 0} (eq : K → K → Bool) where
         let P : Cell K → Type 0 = λ t. (is_free t ≡ false) × (holds eq q t ≡ false) in
         below_more (λ j. P (at cs (place n (s % n) j))) d old (subst (λ j. P (at cs j)) there (subst P (sym is) (refl, ne)))
 
-  module _ (spread : K → ℕ) (n : ℕ) (cs : List (Cell K)) (h : ℕ) (ok : Sound eq spread n cs h) (long : length cs ≡ n) (q : K) where
+  module _ (spread : K → ℕ) (cs : List (Cell K)) (h : ℕ) (ok : Sound eq spread cs h) (q : K) where
+    abbrev n : ℕ
+    n = length cs
+
     -- where a probe comes to a free place, no place holds the key
     pub not_there : (i : ℕ) → Opens eq spread n cs q i → (j : ℕ) → holds eq q (at cs j) ≡ true → ⊥
     not_there i o j t =
@@ -120,6 +122,12 @@ module _ {K : Type 0} (eq : K → K → Bool) where
     no_room all j l =
         full_held (at cs j) (gone_round n cs q (spread q % n) (mod-lt (spread q) (omega arith)) all j (omega arith)).0
 
+    -- a search finds the count of the key
+    pub found_count : (r : Found ℕ) → Finds eq spread (length cs) cs q r → sum_by (share eq q) cs ≡ counted r
+    found_count (At i c) m = met_count eq cs h ok.holding (length cs) q i c m
+    found_count (Open i) o = absent eq cs q (not_there i o)
+    found_count Nowhere p = absent eq cs q (nowhere p)
+
     -- the key can be put at the free place
     pub reach_new : (i : ℕ) → Opens eq spread n cs q i → Reach eq spread n (set cs i (occupied q 1))
     reach_new i o k d e dl el t =
@@ -135,60 +143,91 @@ module _ {K : Type 0} (eq : K → K → Bool) where
         (λ (u : (place n (spread k % n) d ≡ i → ⊥) × (holds eq k (at cs (place n (spread k % n) d)) ≡ true)). keeps _ (ok.reach k d e dl el u.1))
         (before (λ s. holds eq k s ≡ true) cs i (place n (spread k % n) d) (occupied q 1) il t)
 
-  -- a key can give its place to one that is held where it is
-  pub reach_more : (spread : K → ℕ) (n : ℕ) (cs : List (Cell K)) (i : ℕ) (x y : K) (c m : ℕ) → i < length cs → at cs i ≡ occupied x c
-      → ((q : K) → eq x q ≡ eq y q) → Reach eq spread n cs → Reach eq spread n (set cs i (occupied y m))
-  reach_more spread n cs i x y c m il is like old k d e dl el t =
-      same_by is_free cs i (place n (spread k % n) e) (occupied y m) il (sym (ap is_free is))
-      ∙ old k d e dl el (sym (same_by (holds eq k) cs i (place n (spread k % n) d) (occupied y m) il (sym (ap (holds eq k) is ∙ like k))) ∙ t)
+  -- another count leaves each key where a probe comes to it
+  pub reach_more : (spread : K → ℕ) (n : ℕ) (cs : List (Cell K)) (i : ℕ) (x : K) (c m : ℕ) → i < length cs → at cs i ≡ occupied x c
+      → Reach eq spread n cs → Reach eq spread n (set cs i (occupied x m))
+  reach_more spread n cs i x c m il is old k d e dl el t =
+      same_by is_free cs i (place n (spread k % n) e) (occupied x m) il (sym (ap is_free is))
+      ∙ old k d e dl el (sym (same_by (holds eq k) cs i (place n (spread k % n) d) (occupied x m) il (sym (ap (holds eq k) is))) ∙ t)
 
   -- a table with no key
-  pub emptied : (spread : K → ℕ) (m n : ℕ) (cs : List (Cell K)) → m ≡ n → ((i : ℕ) → is_held (at cs i) ≡ false) → Sound eq spread m cs 0 × Empty n (seen eq m cs 0)
-  emptied spread m n cs e off =
-      let done = cleared eq cs m n e off in
-      (record { holding = done.0; reach = λ q d a p r t. absurd (both_ways _ (off _) (holds_held eq q (at cs _) t)) }, done.1)
+  pub emptied : (spread : K → ℕ) (g : ℕ) (xs : List (Option (Held K))) (n : ℕ) → length xs ≡ n → Marked g xs → ((i : ℕ) → is_held (at (cells g xs) i) ≡ false)
+      → (Marked g xs × Sound eq spread (cells g xs) 0) × Empty n (seen eq (cells g xs))
+  emptied spread g xs n e marks off =
+      let done = cleared eq (cells g xs) n (length-map xs (cell g) ∙ e) off in
+      ((marks, record { holding = done.0; reach = λ q d a p r t. absurd (both_ways _ (off _) (holds_held eq q (at (cells g xs) _) t)) }), done.1)
+
+-- a node that stands for an entry holds it, and is of this generation
+pub now_held : {K : Type 0} (g : ℕ) (s : Held K) (e : Entry K) → cell g (Some s) ≡ Some e → (s.generation ≡ g) × (s.entry ≡ e)
+now_held g s e h =
+    ⊎_elim
+    (λ (t : eqb s.generation g ≡ true). (eqb-true s.generation g t, same_Some s.entry e (sym (cond-true (eqb s.generation g) (Some s.entry) None t) ∙ h)))
+    (λ (f : eqb s.generation g ≡ false). absurd (none-some e (sym (cond-false (eqb s.generation g) (Some s.entry) None f) ∙ h)))
+    (cases_Bool (eqb s.generation g))
 
 -- what an addition does to the nodes
 module _ {K : Type 0} (eq : K → K → Bool) (spread : K → ℕ) (sym' : (x y : K) → eq x y ≡ true → eq y x ≡ true)
-    (trans' : (x y z : K) → eq x y ≡ true → eq y z ≡ true → eq x z ≡ true) (g : ℕ) (xs : List (Slot K)) (h : ℕ)
-    (ok : Sound eq spread (length xs) (cells g xs) h) (k : K) (i : ℕ) where
-  abbrev n : ℕ
-  n = length xs
-
+    (trans' : (x y z : K) → eq x y ≡ true → eq y z ≡ true → eq x z ≡ true) (g : ℕ) (xs : List (Option (Held K))) (h : ℕ)
+    (inv : Marked g xs × Sound eq spread (cells g xs) h) (k : K) (i : ℕ) where
   abbrev cs : List (Cell K)
   cs = cells g xs
 
-  long : length cs ≡ n
-  long = length-map xs (cell g)
+  -- the table and its view after a write of a key with a count at i
+  abbrev After : ℕ → Entry K → Type 0
+  After h' e =
+      (Marked g (set xs i (Some (record { entry = e; generation = g }))) × Sound eq spread (cells g (set xs i (Some (record { entry = e; generation = g })))) h')
+      × Raised eq (seen eq cs) (seen eq (cells g (set xs i (Some (record { entry = e; generation = g }))))) k
 
-  -- the table and its view after a write of the key at i
-  abbrev After : ℕ → ℕ → List (Cell K) → Type 0
-  After h' m ds = Sound eq spread m ds h' × Raised eq (seen eq n cs h) (seen eq m ds h') k
-
-  written : (c h' : ℕ) → After h' n (set cs i (occupied k c)) → After h' (length (set xs i (Held k c g))) (cells g (set xs i (Held k c g)))
-  written c h' a =
-      let e : cells g (set xs i (Held k c g)) ≡ set cs i (occupied k c) = map-set (cell g) xs i (Held k c g) ∙ ap (set cs i) (cell_now g k c g refl) in
-      subst (λ m. After h' m (cells g (set xs i (Held k c g)))) (sym (length-set xs i (Held k c g))) (subst (After h' n) (sym e) a)
-
-  pub added : n < 2 ^ 64 → Opens eq spread n cs k i → After ((h + 1) % 2 ^ 64) (length (set xs i (Held k 1 g))) (cells g (set xs i (Held k 1 g)))
-  added small o =
-      let il : i < length cs = omega (arith, o.inside, long) in
-      let off : is_held (at cs i) ≡ false = free_held (at cs i) o.ready in
-      let none : (j : ℕ) → holds eq k (at cs j) ≡ true → ⊥ = not_there eq spread n cs h ok long k i o in
-      let fits : h + 1 ≡ (h + 1) % 2 ^ 64 = omega (arith, held_room cs i k il off, ok.holding.number, long) in
-      written 1 ((h + 1) % 2 ^ 64)
-      (subst (λ h'. After h' n (set cs i (occupied k 1))) fits (
-        record { holding = inserted eq sym' trans' n cs h ok.holding i il k off none; reach = reach_new eq spread n cs h ok long k i o },
-        inserted_raised eq sym' trans' n cs h ok.holding i il k off none long,
-      ))
-
-  pub raised : (c : ℕ) → Meets eq n cs k i c → c < 255 → After h (length (set xs i (Held k (c + 1) g))) (cells g (set xs i (Held k (c + 1) g)))
-  raised c m lt =
-      let il : i < length cs = omega (arith, m.inside, long) in
-      written (c + 1) h (
-        record {
-          holding = bumped eq sym' trans' n cs h ok.holding i il m.found k c m.there m.same lt;
-          reach = reach_more eq spread n cs i m.found k c (c + 1) il m.there (λ q. eq_like eq sym' trans' k m.found q m.same) ok.reach;
-        },
-        bumped_raised eq sym' trans' n cs h ok.holding i il m.found k c m.there m.same lt k m.same,
+  written : (e : Entry K) (h' : ℕ) → i < length cs → Sound eq spread (set cs i (Some e)) h' → Raised eq (seen eq cs) (seen eq (set cs i (Some e))) k → After h' e
+  written e h' l sound more =
+      let u : Held K = record { entry = e; generation = g } in
+      let is : set cs i (Some e) ≡ cells g (set xs i (Some u)) = sym (map-set (cell g) xs i (Some u) ∙ ap (set cs i) (cell_now g u refl)) in (
+        (set_marked g xs i (Some u) (omega (arith, length-map xs (cell g))) (omega arith) inv.0, subst (λ ds. Sound eq spread ds h') is sound),
+        subst (λ ds. Raised eq (seen eq cs) (seen eq ds) k) is more,
       )
+
+  reached : (e : Entry K) → Reach eq spread (length cs) (set cs i (Some e)) → Reach eq spread (length (set cs i (Some e))) (set cs i (Some e))
+  reached e = subst (λ n. Reach eq spread n (set cs i (Some e))) (sym (length-set cs i (Some e)))
+
+  pub added : length xs < 2 ^ 64 → Opens eq spread (length cs) cs k i → After ((h + 1) % 2 ^ 64) (record { key = k; count = 1 })
+  added small o =
+      let ok = inv.1 in
+      let off : is_held (at cs i) ≡ false = free_held (at cs i) o.ready in
+      let none : (j : ℕ) → holds eq k (at cs j) ≡ true → ⊥ = not_there eq spread cs h ok k i o in
+      let fits : h + 1 ≡ (h + 1) % 2 ^ 64 = omega (arith, held_room cs i k o.inside off, ok.holding.number, length-map xs (cell g)) in
+      written (record { key = k; count = 1 }) ((h + 1) % 2 ^ 64) o.inside
+      (subst (λ h'. Sound eq spread (set cs i (occupied k 1)) h') fits (
+      record {
+        holding = inserted eq sym' trans' cs h ok.holding i o.inside k off none;
+        reach = reached (record { key = k; count = 1 }) (reach_new eq spread cs h ok k i o);
+      }
+      ))
+      (inserted_raised eq sym' trans' cs h ok.holding i o.inside k off none)
+
+  pub raised : (c : ℕ) (m : Meets eq (length cs) cs k i c) → c < 255 → After h (record { key = m.found; count = c + 1 })
+  raised c m lt =
+      written (record { key = m.found; count = c + 1 }) h m.inside
+      (record {
+        holding = bumped eq sym' trans' cs h inv.1.holding i m.inside m.found c m.there lt;
+        reach = reached (record { key = m.found; count = c + 1 }) (reach_more eq spread (length cs) cs i m.found c (c + 1) m.inside m.there inv.1.reach);
+      })
+      (bumped_raised eq sym' trans' cs h inv.1.holding i m.inside m.found c m.there lt k m.same)
+
+  -- the node that is met, with a count of one more
+  pub raised_in : (c : ℕ) → Meets eq (length cs) cs k i c → c < 255 → (r : Option (Held K)) (s : Held K) → get_or xs i r ≡ Some s
+      → (Marked g (set xs i (Some (record { entry = record { key = s.entry.key; count = c + 1 }; generation = s.generation })))
+      × Sound eq spread (cells g (set xs i (Some (record { entry = record { key = s.entry.key; count = c + 1 }; generation = s.generation })))) h)
+      × Raised eq (seen eq cs) (seen eq (cells g (set xs i (Some (record { entry = record { key = s.entry.key; count = c + 1 }; generation = s.generation }))))) k
+  raised_in c m lt r s is =
+      let l : i < length xs = omega (arith, m.inside, length-map xs (cell g)) in
+      let w = now_held g s (record { key = m.found; count = c }) (ap (cell g) (sym is) ∙ sym (at_cell g xs i r l) ∙ m.there) in
+      let P : ℕ → K → Type 0 =
+      λ g' x. (Marked g (set xs i (Some (record { entry = record { key = x; count = c + 1 }; generation = g' })))
+      × Sound eq spread (cells g (set xs i (Some (record { entry = record { key = x; count = c + 1 }; generation = g' })))) h)
+      × Raised eq (seen eq cs) (seen eq (cells g (set xs i (Some (record { entry = record { key = x; count = c + 1 }; generation = g' }))))) k in
+      subst (λ x. P s.generation x) (sym (ap (λ e. e.key) w.1)) (subst (λ g'. P g' m.found) (sym w.0) (raised c m lt))
+
+  -- a node that is met is no free one
+  pub not_free : (c : ℕ) → Meets eq (length cs) cs k i c → (r : Option (Held K)) → get_or xs i r ≡ None → ⊥
+  not_free c m r is =
+      none-some (record { key = m.found; count = c }) (ap (cell g) (sym is) ∙ sym (at_cell g xs i r (omega (arith, m.inside, length-map xs (cell g)))) ∙ m.there)

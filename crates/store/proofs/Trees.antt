@@ -1,58 +1,76 @@
 -- Walks in a tree, and what an addition does to them.
-use Rattle.std.proofs.Common.{◌≡◌, ℕ, zero, suc, ◌+◌, ◌-◌, ◌<◌, ◌≤◌, Bool, true, false, cond, ◌⊎◌, List, length, get_or, set, Some, None, Option, Ordering, Less, Equal, Greater, sym, refl, ap, ◌∙◌, subst, inl, inr, ⊎_elim, add-zero, add-suc, add-one, arith, below_more}
-use Rattle.std.proofs.lemmas.List.{get_or_past, get_or-map, length-map, map-set}
-use Rattle.std.proofs.lemmas.Bool.{cases_lt, cases_Bool, both_ways}
-use Rattle.store.specs.Views.{Empty}
-use Rattle.store.specs.Cells.{Cell, vacant, occupied, is_held, holds, at, seen}
-use Rattle.store.specs.Trees.{entry, cells, taken, to, way, turn, onward, next, walk, Goes, Turns, Passes, Under, Grown}
+use Rattle.std.proofs.Common.{◌≡◌, ℕ, zero, suc, ◌+◌, ◌-◌, ◌<◌, ◌≤◌, Bool, true, false, cond, ◌⊎◌, List, length, get_or, set, sum_by, position, drop, ltb, not, Some, None, Option, Ordering, Less, Equal, Greater, sym, refl, ap, ◌∙◌, subst, inl, inr, ⊎_elim, add-zero, add-suc, add-one, arith, below_more}
+use Rattle.std.proofs.lemmas.List.{get_or_past, get_or-map, get_or-drop, drop-map, length-drop, length-map, map-set}
+use Rattle.std.proofs.lemmas.Bool.{cases_lt, cases_Bool, cond-true, cond-false, both_ways, lt-ltb, le-ltb}
+use Rattle.std.proofs.lemmas.List.Sums.{prefix_len_passes, prefix_len_stops}
+use Rattle.std.specs.List.{prefix_len}
+use Rattle.store.specs.Views.{Empty, counted}
+use Rattle.store.specs.Cells.{Cell, is_held, holds, share, at, seen}
+use Rattle.store.specs.Trees.{cells, taken, blank, follow, to, way, turn, onward, next, walk, Goes, Turns, Passes, Under, Seeks, Spares, Grown}
+use Rattle.store.specs.declared.store.Found.{Found}
+use Rattle.store.specs.declared.store.Found.TheVariants.{At, Open, Nowhere}
 use Rattle.store.specs.declared.tree.Node.{Node}
-use Rattle.store.proofs.Cells.{never, in_range, after, holds_held, at_most, cleared}
+use Rattle.store.specs.declared.tree.Spot.{Spot}
+use Rattle.store.proofs.Cells.{occupied, never, in_range, after, holds_held, absent, met_count, at_most, cleared}
 
 not_equal : (s : Bool) → way s ≡ Equal → ⊥
 not_equal true e = let z : ◌≡◌ {A = ℕ} 0 1 = cc in omega arith
 not_equal false e = let z : ◌≡◌ {A = ℕ} 0 1 = cc in omega arith
 
 module _ {K : Type 0} where
-  pub at_key : (xs : List (Node K)) (i : ℕ) (r : Node K) (o : Option K) → i < length xs → (get_or xs i r).key ≡ o → at (cells xs) i ≡ entry o (get_or xs i r).count
-  at_key xs i r o l e = get_or-map (λ x. entry x.key x.count) xs i r vacant l ∙ ap (λ p. entry p (get_or xs i r).count) e
+  pub at_entry : (xs : List (Node K)) (i : ℕ) (r : Node K) → i < length xs → at (cells xs) i ≡ (get_or xs i r).entry
+  at_entry xs i r l = get_or-map (λ x. x.entry) xs i r None l
 
   pub past_free : (xs : List (Node K)) (i : ℕ) → length xs ≤ i → taken xs i ≡ false
-  past_free xs i l = ap is_held (get_or_past (cells xs) i vacant (omega (arith, length-map xs (λ x. entry x.key x.count))))
+  past_free xs i l = ap is_held (get_or_past (cells xs) i None (omega (arith, length-map xs (λ x. x.entry))))
 
   pub taken_in : (xs : List (Node K)) (i : ℕ) → taken xs i ≡ true → i < length xs
-  taken_in xs i t = omega (arith, in_range (cells xs) i t, length-map xs (λ x. entry x.key x.count))
+  taken_in xs i t = omega (arith, in_range (cells xs) i t, length-map xs (λ x. x.entry))
 
-  pub cells_set : (xs : List (Node K)) (i : ℕ) (u : Node K) → cells (set xs i u) ≡ set (cells xs) i (entry u.key u.count)
-  cells_set xs i u = map-set (λ x. entry x.key x.count) xs i u
-
-  pub free_more : (xs : List (Node K)) (i : ℕ) (u : Node K) → u.key ≡ None → i < length xs → ((k : ℕ) → k < i → taken xs k ≡ false) → (k : ℕ) → k < i + 1 → taken (set xs i u) k ≡ false
+  pub free_more : (xs : List (Node K)) (i : ℕ) (u : Node K) → u.entry ≡ None → i < length xs → ((k : ℕ) → k < i → taken xs k ≡ false) → (k : ℕ) → k < i + 1 → taken (set xs i u) k ≡ false
   free_more xs i u e il old k l =
-      subst (λ cs. is_held (at cs k) ≡ false) (sym (cells_set xs i u))
-      (after (λ s. is_held s ≡ false) (cells xs) i k (entry u.key u.count) (omega (arith, length-map xs (λ x. entry x.key x.count)))
-      (ap (λ o. is_held (entry o u.count)) e) (λ ne. old k (omega arith)))
+      subst (λ cs. is_held (at cs k) ≡ false) (sym (map-set (λ x. x.entry) xs i u))
+      (after (λ s. is_held s ≡ false) (cells xs) i k u.entry (omega (arith, length-map xs (λ x. x.entry)))
+      (ap is_held e) (λ ne. old k (omega arith)))
 
-  -- another count for the same key
-  pub entry_more : (o : Option K) (x : K) (a c m : ℕ) → entry o a ≡ occupied x c → entry o m ≡ occupied x m
-  entry_more None x a c m e = let z : ◌≡◌ {A = ℕ} 0 1 = cc in absurd (omega arith)
-  entry_more (Some k) x a c m e = cc
+  -- the first node with no key
+  pub spares_first : (xs : List (Node K)) → Spares xs (position (λ x. not (is_held x.entry)) xs)
+  spares_first xs =
+      let held : Node K → Bool = λ x. not (not (is_held x.entry)) in
+      let n : ℕ = prefix_len held xs in
+      let twice : (b : Bool) → not (not b) ≡ b = λ b. elim b as (λ c. not (not c) ≡ c) [ true ↦ refl | false ↦ refl ] in
+      let key : (i : ℕ) → i < length xs → taken xs i ≡ held (get_or xs i blank) = λ i l. ap is_held (at_entry xs i blank l) ∙ sym (twice (is_held (get_or xs i blank).entry)) in
+      ⊎_elim
+      (λ (l : n < length xs). subst (Spares xs) (sym (cond-true (ltb n (length xs)) (Some n) None (lt-ltb n (length xs) l))) (l, key n l ∙ prefix_len_stops held xs blank l))
+      (λ (l : length xs ≤ n). subst (Spares xs) (sym (cond-false (ltb n (length xs)) (Some n) None (le-ltb n (length xs) l))) (λ i il. key i il ∙ prefix_len_passes held xs i blank (omega arith)))
+      (cases_lt n (length xs))
+
+  pub spares_on : (xs : List (Node K)) (n d : ℕ) → Spares (drop n xs) (Some d) → Spares xs (Some (n + d))
+  spares_on xs n d r =
+      (omega (arith, length-drop n xs, r.0), ap is_held (sym (get_or-drop n (cells xs) d None) ∙ ap (λ cs. at cs d) (drop-map (λ x. x.entry) n xs)) ∙ r.1)
+
+  -- a link leads to the same place in as many nodes
+  pub follow_like : (xs ys : List (Node K)) (l : Option ℕ) → length ys ≡ length xs → follow ys l ≡ follow xs l
+  follow_like xs ys None e = e
+  follow_like xs ys (Some i) e = refl
 
 module _ {K : Type 0} (ord : K → K → Ordering) (q : K) where
   pub goes_held : (s : Cell K) (o : Ordering) → Goes ord q s o → is_held s ≡ true
-  goes_held vacant o h = absurd h
-  goes_held (occupied k c) o h = refl
+  goes_held None o h = absurd h
+  goes_held (Some x) o h = refl
 
   onward_way : (s : Cell K) (i l r : ℕ) (b : Bool) → Goes ord q s (way b) → onward ord q i s l r ≡ cond b l r
-  onward_way vacant i l r b h = absurd h
-  onward_way (occupied k c) i l r true h = ap (λ o. turn o i l r) h
-  onward_way (occupied k c) i l r false h = ap (λ o. turn o i l r) h
+  onward_way None i l r b h = absurd h
+  onward_way (Some x) i l r true h = ap (λ o. turn o i l r) h
+  onward_way (Some x) i l r false h = ap (λ o. turn o i l r) h
 
   pub onward_equal : (s : Cell K) (i l r : ℕ) → Goes ord q s Equal → onward ord q i s l r ≡ i
-  onward_equal vacant i l r h = absurd h
-  onward_equal (occupied k c) i l r h = ap (λ o. turn o i l r) h
+  onward_equal None i l r h = absurd h
+  onward_equal (Some x) i l r h = ap (λ o. turn o i l r) h
 
   onward_free : (s : Cell K) (i l r : ℕ) → is_held s ≡ false → onward ord q i s l r ≡ i
-  onward_free vacant i l r h = refl
-  onward_free (occupied k c) i l r h = absurd (both_ways true h refl)
+  onward_free None i l r h = refl
+  onward_free (Some x) i l r h = absurd (both_ways true h refl)
 
   cases_ord : (o : Ordering) → (o ≡ Equal) ⊎ ((b : Bool) × (o ≡ way b))
   cases_ord Less = inr (true, refl)
@@ -60,11 +78,12 @@ module _ {K : Type 0} (ord : K → K → Ordering) (q : K) where
   cases_ord Greater = inr (false, refl)
 
   pub cases_goes : (s : Cell K) → is_held s ≡ true → Goes ord q s Equal ⊎ ((b : Bool) × Goes ord q s (way b))
-  cases_goes vacant h = absurd (both_ways false refl h)
-  cases_goes (occupied k c) h = cases_ord (ord q k)
+  cases_goes None h = absurd (both_ways false refl h)
+  cases_goes (Some x) h = cases_ord (ord q x.key)
 
   pub next_way : (xs : List (Node K)) (i : ℕ) (b : Bool) → Goes ord q (at (cells xs) i) (way b) → next ord xs q i ≡ to xs i b
-  next_way xs i b h = onward_way (at (cells xs) i) i (to xs i true) (to xs i false) b h
+  next_way xs i true h = onward_way (at (cells xs) i) i (to xs i true) (to xs i false) true h
+  next_way xs i false h = onward_way (at (cells xs) i) i (to xs i true) (to xs i false) false h
 
 module _ {K : Type 0} (ord : K → K → Ordering) (xs : List (Node K)) (root : ℕ) (q : K) where
   -- a walk stays where there is no key
@@ -129,6 +148,12 @@ module _ {K : Type 0} (eq : K → K → Bool) (ord : K → K → Ordering) (xs :
           let r = ok.reach q j t in
           both_ways _ (all r.0 r.1).1.other (subst (λ i. holds eq q (at (cells xs) i) ≡ true) r.2 t)
 
+      -- a search finds the count of the key
+      pub sought_count : (r : Found Spot) → Seeks eq ord xs root q r → sum_by (share eq q) (cells xs) ≡ counted r
+      sought_count (At i c) m = met_count eq (cells xs) h ok.holding (length xs) q i c m
+      sought_count (Open l) end = absent eq (cells xs) q (ended end.steps end.nothing end.passed)
+      sought_count Nowhere all = absent eq (cells xs) q (lost all)
+
       -- each step goes up in rank
       climbed : (n : ℕ) → Passes eq ord xs root q n → (d : ℕ) → d < n → (d ≤ ok.rank (walk ord xs root q d)) × (taken xs (walk ord xs root q d) ≡ true)
       climbed n all zero l = (omega arith, goes_held ord q (at (cells xs) root) (way (all 0 l).0) ((all 0 l).1.goes q (refl' q)))
@@ -146,7 +171,7 @@ module _ {K : Type 0} (eq : K → K → Bool) (ord : K → K → Ordering) (xs :
       -- a walk that goes on for as many steps as there are nodes: each of them has a key
       pub lost_full : Passes eq ord xs root q (length xs) → h ≡ length xs
       lost_full all =
-          let most : h ≤ length xs = omega (arith, at_most eq (cells xs) h ok.holding, length-map xs (λ x. entry x.key x.count)) in
+          let most : h ≤ length xs = omega (arith, at_most eq (cells xs) h ok.holding, length-map xs (λ x. x.entry)) in
           ⊎_elim
           (λ (z : 0 < length xs).
           let d : ℕ = length xs - 1 in
@@ -157,11 +182,11 @@ module _ {K : Type 0} (eq : K → K → Bool) (ord : K → K → Ordering) (xs :
           (cases_lt 0 (length xs))
 
 -- a tree with no key
-pub emptied : {K : Type 0} (eq : K → K → Bool) (ord : K → K → Ordering) (xs : List (Node K)) (root n : ℕ) → length xs ≡ n → length xs ≤ root
-    → ((i : ℕ) → i < length xs → taken xs i ≡ false) → Grown eq ord xs root 0 × Empty n (seen eq (length xs) (cells xs) 0)
-emptied eq ord xs root n long past free =
+pub emptied : {K : Type 0} (eq : K → K → Bool) (ord : K → K → Ordering) (xs : List (Node K)) (n : ℕ) → length xs ≡ n
+    → ((i : ℕ) → i < length xs → taken xs i ≡ false) → Grown eq ord xs (follow xs None) 0 × Empty n (seen eq (cells xs))
+emptied eq ord xs n long free =
     let off : (i : ℕ) → taken xs i ≡ false = λ i. ⊎_elim (λ (l : i < length xs). free i l) (λ (l : length xs ≤ i). past_free xs i l) (cases_lt i (length xs)) in
-    let done = cleared eq (cells xs) (length xs) n long off in (
+    let done = cleared eq (cells xs) n (length-map xs (λ x. x.entry) ∙ long) off in (
       record {
         holding = done.0;
         top = λ l. absurd (omega arith);

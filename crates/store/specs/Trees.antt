@@ -1,22 +1,17 @@
 -- Walks in a search tree, which go down from the root by how a key compares.
-use Rattle.std.specs.Prelude.{◌≡◌, ℕ, zero, suc, ◌<◌, Bool, true, false, cond, List, map, length, Some, None, Option, slice_index_or}
+use Rattle.std.specs.Prelude.{◌≡◌, ℕ, zero, suc, ◌<◌, Bool, true, false, cond, List, map, length, Some, None, Option, MatchOption, slice_index_or}
 use Rattle.std.specs.declared.cmp.Ordering.TheVariants.{Less, Equal, Greater}
 use Rattle.std.specs.declared.cmp.Ordering.{Ordering}
-use Rattle.store.specs.Cells.{Cell, vacant, occupied, is_held, holds, at, Holding, Meets}
+use Rattle.store.specs.Cells.{Cell, is_held, holds, at, Holding, Meets}
+use Rattle.store.specs.declared.store.Found.{Found}
+use Rattle.store.specs.declared.store.Found.TheVariants.{At, Open, Nowhere}
 use Rattle.store.specs.declared.tree.Node.{Node}
 use Rattle.store.specs.declared.tree.Spot.{Spot}
 use Rattle.store.specs.declared.tree.Spot.TheVariants.{Root, Left, Right}
-use Rattle.store.specs.declared.tree.Sought.{Sought}
-use Rattle.store.specs.declared.tree.Sought.TheVariants.{At, Open, Lost}
-
--- a key, if any, with its count
-abbrev pub entry : {K : Type 0} → Option K → ℕ → Cell K
-entry None c = vacant
-entry (Some k) c = occupied k c
 
 -- what the nodes stand for
 abbrev pub cells : {K : Type 0} → List (Node K) → List (Cell K)
-cells xs = map (λ x. entry x.key x.count) xs
+cells xs = map (λ x. x.entry) xs
 
 -- there is a key at i
 abbrev pub taken : {K : Type 0} → List (Node K) → ℕ → Bool
@@ -24,11 +19,20 @@ taken xs i = is_held (at (cells xs) i)
 
 -- the node that stands for those past the last
 abbrev pub blank : {K : Type 0} → Node K
-blank = record { key = None; count = 0; left = 0; right = 0 }
+blank = record { entry = None; left = None; right = None }
 
--- the link of the node at i to the left, at true, or to the right
+-- the place that a link leads to, which is past the last node where it leads to none
+abbrev pub follow : {K : Type 0} → List (Node K) → Option ℕ → ℕ
+follow xs None = length xs
+follow xs (Some i) = i
+
+-- the link of a node to the left, at true, or to the right
+abbrev pub link : {K : Type 0} → Node K → Bool → Option ℕ
+link x s = cond s x.left x.right
+
+-- the place that the link of the node at i leads to
 abbrev pub to : {K : Type 0} → List (Node K) → ℕ → Bool → ℕ
-to xs i s = cond s (slice_index_or xs i blank).left (slice_index_or xs i blank).right
+to xs i s = follow xs (link (slice_index_or xs i blank) s)
 
 -- a lesser key goes to the left, a greater one to the right
 abbrev pub way : Bool → Ordering
@@ -43,8 +47,8 @@ turn Greater i l r = r
 
 -- where a walk for q goes on from i: it stays where there is no key, and at q
 abbrev pub onward : {K : Type 0} → (K → K → Ordering) → K → ℕ → Cell K → ℕ → ℕ → ℕ
-onward ord q i vacant l r = i
-onward ord q i (occupied k c) l r = turn (ord q k) i l r
+onward ord q i None l r = i
+onward ord q i (Some e) l r = turn (ord q e.key) i l r
 
 -- one step of a walk for q
 abbrev pub next : {K : Type 0} → (K → K → Ordering) → List (Node K) → K → ℕ → ℕ
@@ -57,8 +61,8 @@ walk ord xs root q (suc d) = next ord xs q (walk ord xs root q d)
 
 -- the key of a cell compares so with q
 abbrev pub Goes : {K : Type 0} → (K → K → Ordering) → K → Cell K → Ordering → Type 0
-Goes ord q vacant o = ⊥
-Goes ord q (occupied k c) o = ord q k ≡ o
+Goes ord q None o = ⊥
+Goes ord q (Some e) o = ord q e.key ≡ o
 
 -- at i, which holds another key, a walk turns to the side s, for q and for those that equal it
 pub record Turns {K : Type 0} (eq : K → K → Bool) (ord : K → K → Ordering) (xs : List (Node K)) (q : K) (i : ℕ) (s : Bool) : Type 0 where
@@ -92,15 +96,14 @@ pub record Ends {K : Type 0} (eq : K → K → Bool) (ord : K → K → Ordering
   pub comes : Comes eq ord xs root q steps l
 
 -- what a walk for q comes to
-abbrev pub Seeks : {K : Type 0} → (K → K → Bool) → (K → K → Ordering) → List (Node K) → ℕ → K → Sought → Type 0
+abbrev pub Seeks : {K : Type 0} → (K → K → Bool) → (K → K → Ordering) → List (Node K) → ℕ → K → Found Spot → Type 0
 Seeks eq ord xs root q (At i c) = Meets eq (length xs) (cells xs) q i c
 Seeks eq ord xs root q (Open l) = Ends eq ord xs root q l
-Seeks eq ord xs root q Lost = Passes eq ord xs root q (length xs)
+Seeks eq ord xs root q Nowhere = Passes eq ord xs root q (length xs)
 
 -- a node with no key, or that there is none
 abbrev pub Spares : {K : Type 0} → List (Node K) → Option ℕ → Type 0
-Spares xs None = (i : ℕ) → i < length xs → taken xs i ≡ true
-Spares xs (Some i) = (i < length xs) × (taken xs i ≡ false)
+Spares xs r = MatchOption r ((i : ℕ) → i < length xs → taken xs i ≡ true) (λ i. (i < length xs) × (taken xs i ≡ false))
 
 -- what a tree keeps true: its cells hold h keys, no link leads to a node with no key, the links go up in rank, and a walk for each key comes to it
 pub record Grown {K : Type 0} (eq : K → K → Bool) (ord : K → K → Ordering) (xs : List (Node K)) (root h : ℕ) : Type 0 where

@@ -1,5 +1,7 @@
 -- What can be seen of a store, and what its functions do to it.
-use Rattle.std.specs.Prelude.{◌≡◌, ℕ, ◌+◌, ◌<◌, Bool, true, false, Ok, Err, Result}
+use Rattle.std.specs.Prelude.{◌≡◌, ℕ, ◌+◌, ◌<◌, Bool, true, false, List, Ok, Err, Result, codes}
+use Rattle.store.specs.declared.store.Found.{Found}
+use Rattle.store.specs.declared.store.Found.TheVariants.{At, Open, Nowhere}
 use Rattle.store.specs.declared.store.Refused.{Refused}
 use Rattle.store.specs.declared.store.Refused.TheVariants.{Full, Saturated}
 
@@ -13,6 +15,17 @@ pub record View (K : Type 0) : Type 0 where
 abbrev pub refusal : Refused → ℕ
 refusal Full = 24
 refusal Saturated = 25
+
+-- the name of each refusal
+abbrev pub refusal_name : Refused → List ℕ
+refusal_name Full = codes "full"
+refusal_name Saturated = codes "saturated"
+
+-- the count that a search found, 0 where it found no key
+abbrev pub counted : {P : Type 0} → Found P → ℕ
+counted (At i c) = c
+counted (Open p) = 0
+counted Nowhere = 0
 
 -- t is as s
 pub record Kept {K : Type 0} (s t : View K) : Type 0 where

@@ -7,9 +7,9 @@ mod table;
 mod tree;
 
 pub use keys::{Key, OrderedKey, SpreadKey};
-pub use memory::{nodes, slots};
-pub use store::{Refused, Store};
-pub use table::{Slot, Table};
+pub use memory::nodes;
+pub use store::{Entry, Refused, Store};
+pub use table::{Held, Slot, Table};
 pub use tree::{Node, Tree};
 
 #[cfg(test)]

@@ -1,42 +1,77 @@
 // What every store of keys promises.
-ghost use Rattle.std.specs.Prelude.{◌≡◌};
-ghost use Rattle.store.specs.Views.{View, Tells, Adds, Empty, refusal};
+ghost use Rattle.std.specs.Prelude.{◌≡◌, Some};
+ghost use Rattle.store.specs.Views.{View, Tells, Adds, Empty, counted, refusal, refusal_name};
 
 use keys::Key;
+use std::error::Error;
+use std::fmt;
+
+// A key with its count.
+#[derive(Drop)]
+pub struct Entry<K> {
+    pub key: K,
+    pub count: u8,
+}
+
+// What a search for a key comes to: the place that holds it and its count, where it can be put, or neither.
+#[derive(Clone, Copy)]
+pub(crate) enum Found<P> {
+    At(usize, u8),
+    Open(P),
+    Nowhere,
+}
+
+impl<P> Found<P> {
+    pub(crate) fn count(&self) -> u8
+        ensures { result ≡ counted self.now }
+    {
+        match self {
+            Found::At(_, count) => *count,
+            _ => 0,
+        }
+    }
+}
 
 // Why a key is not added: no room for one more key, or its count is 255.
-#[derive(Clone, Copy)]
+#[derive(Clone, Copy, PartialEq, Eq, Debug)]
 pub enum Refused {
-    Full,
-    Saturated,
+    Full = 24,
+    Saturated = 25,
 }
 
 impl Refused {
     pub fn number(self) -> u8
         ensures { result ≡ refusal self }
     {
-        match self {
-            Refused::Full => 24,
-            Refused::Saturated => 25,
-        }
+        self as u8
     }
 }
 
-pub trait Store<K: Key> {
-    // what the store keeps true of itself
-    ghost valid: { Self → Type 0 };
+impl fmt::Display for Refused {
+    ghost output = { λ r. Some (refusal_name r) };
 
+    fn fmt<W: fmt::Write>(&self, f: &mut fmt::Formatter<W>) -> fmt::Result {
+        f.write_str(match self {
+            Refused::Full => "full",
+            Refused::Saturated => "saturated",
+        })
+    }
+}
+
+impl Error for Refused {}
+
+pub trait Store<K: Key> {
     ghost view: { Self → View K };
 
     fn capacity(&self) -> usize
         ensures { result ≡ (view self.now).capacity };
 
     fn count(&mut self, key: &K) -> u8
-        ensures { valid self.old → valid self.new × Tells K.Key.equals (view self.old) (view self.new) key.now result };
+        ensures { Tells K.Key.equals (view self.old) (view self.new) key.now result };
 
     fn add(&mut self, key: K) -> Result<(), Refused>
-        ensures { valid self.old → valid self.new × Adds K.Key.equals (view self.old) (view self.new) key result };
+        ensures { Adds K.Key.equals (view self.old) (view self.new) key result };
 
     fn clear(&mut self)
-        ensures { valid self.new × Empty (view self.old).capacity (view self.new) };
+        ensures { Empty (view self.old).capacity (view self.new) };
 }

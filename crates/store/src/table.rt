@@ -1,75 +1,50 @@
 // A hash table with open addressing, over nodes that the caller lends.
 ghost use Rattle.std.specs.Prelude.{length};
 ghost use Rattle.store.specs.Views.{Empty};
-ghost use Rattle.store.specs.Cells.{seen};
-ghost use Rattle.store.specs.Probes.{cells, Marked, Sound, Finds};
+ghost use Rattle.store.specs.Cells.{held_in, seen};
+ghost use Rattle.store.specs.Probes.{Sound, Finds};
 
-use crate::store::{Refused, Store};
+use crate::store::{Entry, Found, Refused, Store};
 use keys::{Key, SpreadKey};
+use std::marker::Model;
 
-// A node of a table: free, or a key with its count and the generation that it was added in.
+// A key with its count, and the generation that it was added in.
 #[derive(Drop)]
-pub enum Slot<K> {
-    Free,
-    Held(K, u8, u32),
+pub struct Held<K> {
+    pub entry: Entry<K>,
+    pub generation: u32,
 }
 
-// What a probe for a key finds: the place that holds it and its count, the first free place, or neither.
-#[derive(Clone, Copy)]
-enum Found {
-    At(usize, u8),
-    Open(usize),
-    Nowhere,
-}
+// A node of a table.
+pub type Slot<K> = Option<Held<K>>;
 
-// The nodes of earlier generations count as free.
+// The nodes of earlier generations count as free. A clause sees what each node stands for.
 #[derive(Drop)]
 pub struct Table<'a, K: SpreadKey> {
     nodes: &'a mut [Slot<K>],
     generation: u32,
     held: usize,
-    ghost marks: { Marked generation nodes.now },
 }
 
-fn find<K: SpreadKey>(nodes: &[Slot<K>], generation: u32, key: &K) -> Found
-    ensures { Finds K.Key.equals K.SpreadKey.spreads (length nodes.now) (cells generation nodes.now) key.now result }
-{
-    let n = nodes.len();
-    if n == 0 {
-        return Found::Nowhere;
-    }
-    let home = (key.spread() % n as u64) as usize;
-    let mut i = home;
-    for d in 0..n {
-        match &nodes[i] {
-            Slot::Free => {
-                return Found::Open(i);
-            }
-            Slot::Held(k, count, mark) => {
-                if *mark != generation {
-                    return Found::Open(i);
-                }
-                if k.same(key) {
-                    return Found::At(i, *count);
-                }
-            }
-        }
-        i += 1;
-        if i == n {
-            i = 0;
-        }
-    }
-    Found::Nowhere
+impl<'a, K: SpreadKey> Model for Table<'a, K> {
+    ghost use Rattle.std.specs.Prelude.{List};
+    ghost use Rattle.store.specs.Cells.{Cell};
+    ghost use Rattle.store.specs.Probes.{cells, Marked, Sound};
+
+    ghost Value = { List (Cell K) };
+
+    ghost view = { λ t. cells t.generation t.nodes.now };
+
+    ghost invariant = { λ t. Marked t.generation t.nodes.now × Sound K.Key.equals K.SpreadKey.spreads (cells t.generation t.nodes.now) t.held };
 }
 
 impl<'a, K: SpreadKey + Drop> Table<'a, K> {
     // A table with no key. The nodes may be in any state.
     pub fn new(nodes: &'a mut [Slot<K>]) -> Table<'a, K>
-        ensures valid { Sound K.Key.equals K.SpreadKey.spreads (length result.nodes.now) (cells result.generation result.nodes.now) result.held }
-        ensures empty { Empty (length nodes.old) (seen K.Key.equals (length result.nodes.now) (cells result.generation result.nodes.now) result.held) }
+        ensures { Empty (length nodes.old) (seen K.Key.equals result) }
     {
-        for slot in nodes.iter_mut() {
-            *slot = Slot::Free;
+        for node in nodes.iter_mut() {
+            *node = None;
         }
         Table {
             nodes,
@@ -80,41 +55,62 @@ impl<'a, K: SpreadKey + Drop> Table<'a, K> {
 }
 
 impl<K: SpreadKey> Table<'_, K> {
-    fn find(&self, key: &K) -> Found
-        ensures { Finds K.Key.equals K.SpreadKey.spreads (length self.now.nodes.now) (cells self.now.generation self.now.nodes.now) key.now result }
+    fn find(&self, key: &K) -> Found<usize>
+        ensures sound { Sound K.Key.equals K.SpreadKey.spreads self.now (held_in self.now) }
+        ensures finds { Finds K.Key.equals K.SpreadKey.spreads (length self.now) self.now key.now result }
     {
-        find(self.nodes, self.generation, key)
+        let nodes = &*self.nodes;
+        let n = nodes.len();
+        if n == 0 {
+            return Found::Nowhere;
+        }
+        let home = (key.spread() % n as u64) as usize;
+        let mut i = home;
+        for d in 0..n {
+            match &nodes[i] {
+                Some(held) if held.generation == self.generation => {
+                    if held.entry.key.same(key) {
+                        return Found::At(i, held.entry.count);
+                    }
+                }
+                _ => {
+                    return Found::Open(i);
+                }
+            }
+            i += 1;
+            if i == n {
+                i = 0;
+            }
+        }
+        Found::Nowhere
     }
 }
 
 impl<'a, K: SpreadKey + Drop> Store<K> for Table<'a, K> {
-    ghost valid = { λ s. Sound K.Key.equals K.SpreadKey.spreads (length s.nodes.now) (cells s.generation s.nodes.now) s.held };
-
-    ghost view = { λ s. seen K.Key.equals (length s.nodes.now) (cells s.generation s.nodes.now) s.held };
+    ghost view = { λ cs. seen K.Key.equals cs };
 
     fn capacity(&self) -> usize {
         self.nodes.len()
     }
 
     fn count(&mut self, key: &K) -> u8 {
-        match self.find(key) {
-            Found::At(_, count) => count,
-            Found::Open(_) => 0,
-            Found::Nowhere => 0,
-        }
+        self.find(key).count()
     }
 
     fn add(&mut self, key: K) -> Result<(), Refused> {
         match self.find(&key) {
             Found::At(i, count) => {
-                if count == 255 {
-                    return Err(Refused::Saturated);
+                let more = count.checked_add(1).ok_or(Refused::Saturated)?;
+                if let Some(held) = &mut self.nodes[i] {
+                    held.entry.count = more;
                 }
-                self.nodes[i] = Slot::Held(key, count + 1, self.generation);
                 Ok(())
             }
             Found::Open(i) => {
-                self.nodes[i] = Slot::Held(key, 1, self.generation);
+                self.nodes[i] = Some(Held {
+                    entry: Entry { key, count: 1 },
+                    generation: self.generation,
+                });
                 // Never wraps: fewer keys are held than there are nodes.
                 self.held = self.held.wrapping_add(1);
                 Ok(())
@@ -129,9 +125,8 @@ impl<'a, K: SpreadKey + Drop> Store<K> for Table<'a, K> {
             self.generation += 1;
             return;
         }
-        let n = self.nodes.len();
-        for i in 0..n {
-            self.nodes[i] = Slot::Free;
+        for node in self.nodes.iter_mut() {
+            *node = None;
         }
         self.generation = 0;
     }

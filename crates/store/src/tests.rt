@@ -1,9 +1,10 @@
 // Both makes of a store, over keys that are equal by one of their parts alone.
-ghost use Rattle.std.specs.Prelude.{◌≡◌, ◌<◌, length, if◌then◌else◌, ◌==◌, nat_lt};
-ghost use Rattle.std.specs.declared.cmp.Ordering.TheVariants.{Less, Equal, Greater};
+ghost use Rattle.std.specs.Prelude.{◌≡◌, ◌<◌, length, ◌==◌};
+ghost use Rattle.std.specs.Ordering.{nat_cmp};
 ghost use Rattle.std.proofs.Common.{rules};
 
 use super::*;
+use std::alloc::AllocError;
 use std::cmp::Ordering;
 use std::process::Abort;
 
@@ -37,16 +38,10 @@ impl SpreadKey for Noted {
 }
 
 impl OrderedKey for Noted {
-    ghost orders = { λ x y. (if nat_lt x.number y.number then Less else (if nat_lt y.number x.number then Greater else Equal)) };
+    ghost orders = { λ x y. nat_cmp x.number y.number };
 
     fn compare(&self, other: &Noted) -> Ordering {
-        if self.number < other.number {
-            Ordering::Less
-        } else if other.number < self.number {
-            Ordering::Greater
-        } else {
-            Ordering::Equal
-        }
+        self.number.cmp(&other.number)
     }
 }
 
@@ -101,46 +96,34 @@ fn once(nodes: &mut [Slot<Noted>], number: u64) -> u8
 
 #[test]
 fn table(rt: HostRuntime) {
-    let mut nodes: [Slot<Noted>; 3] = [
-        Slot::Free,
-        Slot::Held(
-            Noted {
+    let old = Held {
+        entry: Entry {
+            key: Noted {
                 number: 11,
                 note: 0,
             },
-            7,
-            0,
-        ),
-        Slot::Free,
-    ];
+            count: 7,
+        },
+        generation: 0,
+    };
+    let mut nodes: [Slot<Noted>; 3] = [None, Some(old), None];
     go_through(&rt, &mut Table::new(&mut nodes));
 }
 
 #[test]
 fn tree(rt: HostRuntime) {
-    let mut nodes: [Node<Noted>; 3] = [
-        Node {
-            key: None,
-            count: 0,
-            left: 0,
-            right: 0,
-        },
-        Node {
-            key: Some(Noted {
+    let old = Node {
+        entry: Some(Entry {
+            key: Noted {
                 number: 11,
                 note: 0,
-            }),
+            },
             count: 7,
-            left: 0,
-            right: 1,
-        },
-        Node {
-            key: None,
-            count: 0,
-            left: 0,
-            right: 0,
-        },
-    ];
+        }),
+        left: Some(0),
+        right: Some(1),
+    };
+    let mut nodes: [Node<Noted>; 3] = [Node::default(), old, Node::default()];
     go_through(&rt, &mut Tree::new(&mut nodes));
 }
 
@@ -150,4 +133,22 @@ fn no_nodes(rt: HostRuntime) {
     assert_eq!(rt; add(&mut Table::new(&mut slots), 5, 1), 24);
     let mut nodes: [Node<Noted>; 0] = [];
     assert_eq!(rt; add(&mut Tree::new(&mut nodes), 5, 1), 24);
+}
+
+#[test]
+fn lent(rt: HostRuntime) -> Result<(), AllocError> {
+    let mut slots = nodes::<Slot<Noted>>(rt.alloc(), 3)?;
+    assert_eq!(rt; slots.len(), 3);
+    go_through(&rt, &mut Table::new(&mut slots));
+    let mut nodes = nodes::<Node<Noted>>(rt.alloc(), 3)?;
+    assert_eq!(rt; nodes.len(), 3);
+    go_through(&rt, &mut Tree::new(&mut nodes));
+    Ok(())
+}
+
+#[test]
+fn names(rt: HostRuntime) -> Result<(), AllocError> {
+    let text = format!(in rt.alloc(); "{} {}", Refused::Full, Refused::Saturated)?;
+    assert_eq!(rt; text.as_str(), "full saturated");
+    Ok(())
 }

@@ -1,35 +1,31 @@
 // A binary search tree, over nodes that the caller lends.
-ghost use Rattle.std.specs.Prelude.{◌≡◌, ◌-◌, ◌^◌, length, None};
+ghost use Rattle.std.specs.Prelude.{◌≡◌, length, None, is_some, not, position};
 ghost use Rattle.store.specs.Views.{Empty};
-ghost use Rattle.store.specs.Cells.{seen};
-ghost use Rattle.store.specs.Trees.{cells, Grown, Seeks, Spares};
+ghost use Rattle.store.specs.Cells.{held_in, seen};
+ghost use Rattle.store.specs.Trees.{cells, follow, Grown, Seeks, Spares};
 
-use crate::store::{Refused, Store};
+use crate::store::{Entry, Found, Refused, Store};
 use keys::{Key, OrderedKey};
 use std::cmp::Ordering;
+use std::marker::Model;
 
-// A link to no node.
-const NOWHERE: usize = usize::MAX;
-
-// A node of a tree: free, or a key with its count, and the nodes below it, the lesser keys left and the greater right.
+// A node of a tree: a key with its count, if any, and the nodes below it, the lesser keys left and the greater right.
 #[derive(Drop)]
 pub struct Node<K> {
-    pub key: Option<K>,
-    pub count: u8,
-    pub left: usize,
-    pub right: usize,
+    pub entry: Option<Entry<K>>,
+    pub left: Option<usize>,
+    pub right: Option<usize>,
 }
 
-impl<K> Node<K> {
-    // A node with no key.
-    pub fn free() -> Node<K>
-        ensures { (result.key ≡ None) × (result.count ≡ 0) × (result.left ≡ 2 ^ 64 - 1) × (result.right ≡ 2 ^ 64 - 1) }
-    {
+// A node with no key. A derived `Default` would ask for a default key.
+impl<K> Default for Node<K> {
+    ghost is_default = { λ n. n ≡ record { entry = None; left = None; right = None } };
+
+    fn default() -> Node<K> {
         Node {
-            key: None,
-            count: 0,
-            left: NOWHERE,
-            right: NOWHERE,
+            entry: None,
+            left: None,
+            right: None,
         }
     }
 }
@@ -42,173 +38,146 @@ enum Spot {
     Right(usize),
 }
 
-// What a walk for a key comes to: the place that holds it and its count, the link where it would stand, or neither.
-#[derive(Clone, Copy)]
-enum Sought {
-    At(usize, u8),
-    Open(Spot),
-    Lost,
-}
-
-// The next free node is looked for from `next` on.
+// The next free node is looked for from `next` on. A clause sees the root and the nodes.
 #[derive(Drop)]
 pub struct Tree<'a, K: OrderedKey> {
     nodes: &'a mut [Node<K>],
-    root: usize,
+    root: Option<usize>,
     held: usize,
     next: usize,
 }
 
-fn seek<K: OrderedKey>(nodes: &[Node<K>], root: usize, key: &K) -> Sought
-    ensures { Seeks K.Key.equals K.OrderedKey.orders nodes.now root key.now result }
-{
-    let n = nodes.len();
-    let mut i = root;
-    let mut spot = Spot::Root;
-    for d in 0..n {
-        if i >= n {
-            return Sought::Open(spot);
-        }
-        match &nodes[i].key {
-            None => {
-                return Sought::Open(spot);
-            }
-            Some(k) => match key.compare(k) {
-                Ordering::Less => {
-                    spot = Spot::Left(i);
-                    i = nodes[i].left;
-                }
-                Ordering::Equal => {
-                    return Sought::At(i, nodes[i].count);
-                }
-                Ordering::Greater => {
-                    spot = Spot::Right(i);
-                    i = nodes[i].right;
-                }
-            },
-        }
-    }
-    Sought::Lost
-}
+impl<'a, K: OrderedKey> Model for Tree<'a, K> {
+    ghost use Rattle.std.specs.Prelude.{ℕ, ◌≤◌, List, Option, length};
+    ghost use Rattle.store.specs.declared.tree.Node.{Node};
+    ghost use Rattle.store.specs.Trees.{follow, Grown};
 
-// A free node, if there is one, from `next` on or else from the first.
-fn spare<K>(nodes: &[Node<K>], next: usize) -> Option<usize>
-    ensures { Spares nodes.now result }
-{
-    let n = nodes.len();
-    for i in next..n {
-        match &nodes[i].key {
-            None => {
-                return Some(i);
-            }
-            Some(_) => {}
-        }
-    }
-    for j in 0..n {
-        match &nodes[j].key {
-            None => {
-                return Some(j);
-            }
-            Some(_) => {}
-        }
-    }
-    None
+    ghost Value = { Option ℕ × List (Node K) };
+
+    ghost view = { λ t. (t.root, t.nodes.now) };
+
+    ghost invariant = { λ t. Grown K.Key.equals K.OrderedKey.orders t.nodes.now (follow t.nodes.now t.root) t.held × (t.next ≤ length t.nodes.now) };
 }
 
 impl<'a, K: OrderedKey + Drop> Tree<'a, K> {
     // A tree with no key. The nodes may be in any state.
     pub fn new(nodes: &'a mut [Node<K>]) -> Tree<'a, K>
-        ensures valid { Grown K.Key.equals K.OrderedKey.orders result.nodes.now result.root result.held }
-        ensures empty { Empty (length nodes.old) (seen K.Key.equals (length result.nodes.now) (cells result.nodes.now) result.held) }
+        ensures { Empty (length nodes.old) (seen K.Key.equals (cells result.1)) }
     {
         for node in nodes.iter_mut() {
-            node.key = None;
+            node.entry = None;
         }
         Tree {
             nodes,
-            root: NOWHERE,
+            root: None,
             held: 0,
             next: 0,
         }
     }
 }
 
+fn first_free<K>(nodes: &[Node<K>]) -> Option<usize>
+    ensures { result ≡ position (λ n. not (is_some n.entry)) nodes.now }
+{
+    nodes.iter().position(|node| node.entry.is_none())
+}
+
 impl<K: OrderedKey> Tree<'_, K> {
-    fn seek(&self, key: &K) -> Sought
-        ensures { Seeks K.Key.equals K.OrderedKey.orders self.now.nodes.now self.now.root key.now result }
+    fn seek(&self, key: &K) -> Found<Spot>
+        ensures grown { Grown K.Key.equals K.OrderedKey.orders self.now.1 (follow self.now.1 self.now.0) (held_in (cells self.now.1)) }
+        ensures seeks { Seeks K.Key.equals K.OrderedKey.orders self.now.1 (follow self.now.1 self.now.0) key.now result }
     {
-        seek(self.nodes, self.root, key)
+        let mut link = self.root;
+        let mut spot = Spot::Root;
+        for d in 0..self.nodes.len() {
+            let Some(i) = link else {
+                return Found::Open(spot);
+            };
+            let Some(node) = self.nodes.get(i) else {
+                return Found::Open(spot);
+            };
+            let Some(entry) = &node.entry else {
+                return Found::Open(spot);
+            };
+            match key.compare(&entry.key) {
+                Ordering::Less => {
+                    spot = Spot::Left(i);
+                    link = node.left;
+                }
+                Ordering::Equal => {
+                    return Found::At(i, entry.count);
+                }
+                Ordering::Greater => {
+                    spot = Spot::Right(i);
+                    link = node.right;
+                }
+            }
+        }
+        Found::Nowhere
     }
 
+    // A free node, if there is one, from `next` on or else from the first.
     fn spare(&self) -> Option<usize>
-        ensures { Spares self.now.nodes.now result }
+        ensures { Spares self.now.1 result }
     {
-        spare(self.nodes, self.next)
+        match first_free(&self.nodes[self.next..]) {
+            Some(d) => Some(self.next + d),
+            None => first_free(self.nodes),
+        }
     }
 }
 
 impl<'a, K: OrderedKey + Drop> Store<K> for Tree<'a, K> {
-    ghost valid = { λ s. Grown K.Key.equals K.OrderedKey.orders s.nodes.now s.root s.held };
-
-    ghost view = { λ s. seen K.Key.equals (length s.nodes.now) (cells s.nodes.now) s.held };
+    ghost view = { λ t. seen K.Key.equals (cells t.1) };
 
     fn capacity(&self) -> usize {
         self.nodes.len()
     }
 
     fn count(&mut self, key: &K) -> u8 {
-        match self.seek(key) {
-            Sought::At(_, count) => count,
-            Sought::Open(_) => 0,
-            Sought::Lost => 0,
-        }
+        self.seek(key).count()
     }
 
     fn add(&mut self, key: K) -> Result<(), Refused> {
         match self.seek(&key) {
-            Sought::At(i, count) => {
-                if count == 255 {
-                    return Err(Refused::Saturated);
+            Found::At(i, count) => {
+                let more = count.checked_add(1).ok_or(Refused::Saturated)?;
+                if let Some(entry) = &mut self.nodes[i].entry {
+                    entry.count = more;
                 }
-                self.nodes[i].count = count + 1;
                 Ok(())
             }
-            Sought::Open(spot) => match self.spare() {
-                None => Err(Refused::Full),
-                Some(i) => {
-                    self.nodes[i] = Node {
-                        key: Some(key),
-                        count: 1,
-                        left: NOWHERE,
-                        right: NOWHERE,
-                    };
-                    match spot {
-                        Spot::Root => {
-                            self.root = i;
-                        }
-                        Spot::Left(p) => {
-                            self.nodes[p].left = i;
-                        }
-                        Spot::Right(p) => {
-                            self.nodes[p].right = i;
-                        }
+            Found::Open(spot) => {
+                let i = self.spare().ok_or(Refused::Full)?;
+                self.nodes[i] = Node {
+                    entry: Some(Entry { key, count: 1 }),
+                    ..Node::default()
+                };
+                match spot {
+                    Spot::Root => {
+                        self.root = Some(i);
                     }
-                    self.next = i + 1;
-                    // Never wraps: fewer keys are held than there are nodes.
-                    self.held = self.held.wrapping_add(1);
-                    Ok(())
+                    Spot::Left(p) => {
+                        self.nodes[p].left = Some(i);
+                    }
+                    Spot::Right(p) => {
+                        self.nodes[p].right = Some(i);
+                    }
                 }
-            },
-            Sought::Lost => Err(Refused::Full),
+                self.next = i + 1;
+                // Never wraps: fewer keys are held than there are nodes.
+                self.held = self.held.wrapping_add(1);
+                Ok(())
+            }
+            Found::Nowhere => Err(Refused::Full),
         }
     }
 
     fn clear(&mut self) {
-        let n = self.nodes.len();
-        for i in 0..n {
-            self.nodes[i].key = None;
+        for node in self.nodes.iter_mut() {
+            node.entry = None;
         }
-        self.root = NOWHERE;
+        self.root = None;
         self.held = 0;
         self.next = 0;
     }

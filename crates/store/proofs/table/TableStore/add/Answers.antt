@@ -1,38 +1,82 @@
-use Rattle.std.proofs.Common.{length, ◌∙◌, arith}
+use Rattle.std.proofs.Common.{◌≡◌, ◌+◌, ◌<◌, length, Err, rules, sym, ap, ◌∙◌, subst, arith}
 use Rattle.std.proofs.lemmas.List.{length-map}
-use Rattle.store.specs.Probes.{cell, cells}
-use Rattle.store.proofs.Cells.{kept_same, absent, met_count, all_held}
-use Rattle.store.proofs.Probes.{set_marked, nowhere, no_room, added, raised}
+use Rattle.store.specs.Views.{Adds}
+use Rattle.store.specs.Cells.{seen, Meets}
+use Rattle.store.specs.Probes.{cell, Opens}
+use Rattle.store.specs.declared.store.Refused.TheVariants.{Saturated}
+use Rattle.store.proofs.Cells.{kept_same, absent, met_count, held_all}
+use Rattle.store.proofs.Probes.{nowhere, no_room, added, raised_in, not_free}
 use Rattle.store.proofs.table.TableStore.add.Goals as goal
+use Rattle.store.proofs.table.TableStore.add.Goals.{in-Some, in_default}
 
-pub returns-then-count : goal.returns-then-count
-returns-then-count g c ok =
-    let cs = cells c.args.self.now.generation c.args.self.now.nodes.now in
-    (ok, (met_count g.K.Key.equals cs c.args.self.now.held ok.holding (length c.args.self.now.nodes.now) c.args.key _ _ c.in-At.ensures ∙ c.if-count.true, kept_same _))
+pub returns-in_err-more-in-At : goal.returns-in_err-more-in-At
+returns-in_err-more-in-At g c =
+    let eq = g.K.Key.equals in
+    let e : c.from_residual.result ≡ Err Saturated = search rules in
+    let full : c.in-At.count ≡ 255 = search rules in
+    subst (λ r. Adds eq (seen eq c.args.self.now) (seen eq c.args.self.now) c.args.key r) (sym e)
+    (met_count eq c.args.self.now _ c.in-At.ensures.sound.holding (length c.args.self.now) c.args.key _ _ c.in-At.ensures.finds ∙ full, kept_same _)
 
 pub invariant_of-self : goal.invariant_of-self
-invariant_of-self g c = (set_marked _ c.args.self.now.nodes.now _ _ c.in-At.ensures.inside (omega arith) c.args.self.now.marks, tt)
+invariant_of-self g c =
+    let k = g.met.K.Key in
+    let eq = g.K.Key.equals in
+    let spread = g.K.SpreadKey.spreads in
+    let gen = c.self.inside.generation in
+    let xs = c.self.inside.nodes.now in
+    let m = subst (λ cs. Meets eq (length cs) cs c.args.key c.in-At.i c.in-At.count) (sym c.self.view_is) c.in-At.ensures.finds in
+    let more : c.in_ok-more-in-At.more ≡ c.in-At.count + 1 = search rules in
+    let below : c.in-At.count < 255 = search rules in
+    elim c.match-self-i.branch [
+      | in-Some w ↦ rw (w.self-inside-is, more) (raised_in eq spread k.symmetric k.transitive gen xs c.self.inside.held c.self.invariant c.args.key c.in-At.i c.in-At.count m below c.index-self-i.result w.in-Some.held w.in-Some.is).0
+      | in_default w ↦ absurd (not_free eq spread k.symmetric k.transitive gen xs c.self.inside.held c.self.invariant c.args.key c.in-At.i c.in-At.count m c.index-self-i.result w.in_default.is)
+    ]
+
+pub offset_bounds-self-inside-i-in-Open : goal.offset_bounds-self-inside-i-in-Open
+offset_bounds-self-inside-i-in-Open g c =
+    let l : c.in-Open.i < length c.self.inside.nodes.now =
+    omega (arith, c.in-Open.ensures.finds.inside, ap length c.self.view_is, length-map c.self.inside.nodes.now (cell c.self.inside.generation)) in
+    search rules
 
 pub invariant_of-self-in-Open : goal.invariant_of-self-in-Open
-invariant_of-self-in-Open g c = (set_marked _ c.args.self.now.nodes.now _ _ c.in-Open.ensures.inside (omega arith) c.args.self.now.marks, tt)
+invariant_of-self-in-Open g c =
+    let k = g.met.K.Key in
+    let eq = g.K.Key.equals in
+    let spread = g.K.SpreadKey.spreads in
+    (added eq spread k.symmetric k.transitive c.self.inside.generation c.self.inside.nodes.now c.self.inside.held c.self.invariant c.args.key c.in-Open.i (omega arith)
+    (subst (λ cs. Opens eq spread (length cs) cs c.args.key c.in-Open.i) (sym c.self.view_is) c.in-Open.ensures.finds)).0
 
-pub returns-else-count : goal.returns-else-count
-returns-else-count g c ok =
-    raised g.K.Key.equals g.K.SpreadKey.spreads g.met.K.Key.symmetric g.met.K.Key.transitive _ _ _ ok c.args.key _ _ c.in-At.ensures (omega arith)
+pub returns-after-self-i : goal.returns-after-self-i
+returns-after-self-i g c =
+    let k = g.met.K.Key in
+    let eq = g.K.Key.equals in
+    let spread = g.K.SpreadKey.spreads in
+    let gen = c.self.inside.generation in
+    let xs = c.self.inside.nodes.now in
+    let m = subst (λ cs. Meets eq (length cs) cs c.args.key c.in-At.i c.in-At.count) (sym c.self.view_is) c.in-At.ensures.finds in
+    let more : c.in_ok-more-in-At.more ≡ c.in-At.count + 1 = search rules in
+    let below : c.in-At.count < 255 = search rules in
+    elim c.match-self-i.branch [
+      | in-Some w ↦ rw (← c.self.view_is, w.self-inside-is, more) (raised_in eq spread k.symmetric k.transitive gen xs c.self.inside.held c.self.invariant c.args.key c.in-At.i c.in-At.count m below c.index-self-i.result w.in-Some.held w.in-Some.is).1
+      | in_default w ↦ absurd (not_free eq spread k.symmetric k.transitive gen xs c.self.inside.held c.self.invariant c.args.key c.in-At.i c.in-At.count m c.index-self-i.result w.in_default.is)
+    ]
 
 pub returns-in-Open : goal.returns-in-Open
-returns-in-Open g c ok =
-    added g.K.Key.equals g.K.SpreadKey.spreads g.met.K.Key.symmetric g.met.K.Key.transitive _ _ _ ok c.args.key _ (omega arith) c.in-Open.ensures
+returns-in-Open g c =
+    let k = g.met.K.Key in
+    let eq = g.K.Key.equals in
+    let spread = g.K.SpreadKey.spreads in
+    rw (← c.self.view_is)
+    (added eq spread k.symmetric k.transitive c.self.inside.generation c.self.inside.nodes.now c.self.inside.held c.self.invariant c.args.key c.in-Open.i (omega arith)
+    (subst (λ cs. Opens eq spread (length cs) cs c.args.key c.in-Open.i) (sym c.self.view_is) c.in-Open.ensures.finds)).1
 
 pub returns-in-Nowhere : goal.returns-in-Nowhere
-returns-in-Nowhere g c ok =
+returns-in-Nowhere g c =
     let eq = g.K.Key.equals in
-    let cs = cells c.args.self.now.generation c.args.self.now.nodes.now in
-    let long = length-map c.args.self.now.nodes.now (cell c.args.self.now.generation) in (
-      ok,
-      (
-        absent eq cs c.args.key (nowhere eq g.K.SpreadKey.spreads _ cs _ ok long c.args.key c.in-Nowhere.ensures),
-        all_held eq cs _ ok.holding (no_room eq g.K.SpreadKey.spreads _ cs _ ok long c.args.key c.in-Nowhere.ensures) ∙ long,
-        kept_same _,
-      ),
+    let cs = c.args.self.now in
+    let ok = c.in-Nowhere.ensures.sound in
+    let round = c.in-Nowhere.ensures.finds in (
+      absent eq cs c.args.key (nowhere eq g.K.SpreadKey.spreads cs _ ok c.args.key round),
+      held_all cs (no_room eq g.K.SpreadKey.spreads cs _ ok c.args.key round),
+      kept_same _,
     )

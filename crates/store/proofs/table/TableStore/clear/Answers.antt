@@ -1,35 +1,31 @@
-use Rattle.std.proofs.Common.{length, sym, refl, ◌∙◌, subst, arith}
-use Rattle.std.proofs.lemmas.List.{length-set}
-use Rattle.store.specs.Views.{Empty}
-use Rattle.store.specs.Cells.{seen}
-use Rattle.store.specs.Probes.{cells, Sound}
-use Rattle.store.proofs.Probes.{free_more, free_marked, free_vacant, next_vacant, set_marked, emptied}
+use Rattle.std.proofs.Common.{◌≡◌, ℕ, ◌<◌, None, get_or, length, sym, refl, ap, ◌∙◌, arith}
+use Rattle.std.proofs.lemmas.List.{length-map}
+use Rattle.store.specs.Probes.{cell}
+use Rattle.store.proofs.Probes.{free_more, free_marked, free_vacant, next_vacant, emptied}
 use Rattle.store.proofs.table.TableStore.clear.Goals as goal
 
 pub invariant_of-self : goal.invariant_of-self
-invariant_of-self g c = record { marks = λ i. omega (arith, c.args.self.now.marks i) }
+invariant_of-self g c =
+    let xs = c.self.inside.nodes.now in
+    (emptied g.K.Key.equals g.K.SpreadKey.spreads _ xs _ refl (λ i. omega (arith, c.self.invariant.0 i)) (next_vacant _ c.self.inside.generation xs c.self.invariant.0 (omega arith))).0
 
 pub returns-then-self-lt4294967295 : goal.returns-then-self-lt4294967295
 returns-then-self-lt4294967295 g c =
-    emptied g.K.Key.equals g.K.SpreadKey.spreads _ _ _ refl
-    (next_vacant _ c.args.self.now.generation c.args.self.now.nodes.now c.args.self.now.marks (omega arith))
+    let xs = c.self.inside.nodes.now in
+    (emptied g.K.Key.equals g.K.SpreadKey.spreads _ xs _ (sym (length-map xs (cell c.self.inside.generation)) ∙ ap length c.self.view_is) (λ i. omega (arith, c.self.invariant.0 i))
+    (next_vacant _ c.self.inside.generation xs c.self.invariant.0 (omega arith))).1
 
-pub invariant_of-self-in-loop-i : goal.invariant_of-self-in-loop-i
-invariant_of-self-in-loop-i g c =
-    (set_marked _ c.loop-i.self.nodes.now _ _ (omega (arith, c.loop-i.invariant.1)) (omega arith) c.loop-i.self.marks, tt)
-
-pub loop-i-preserved : goal.loop-i-preserved
-loop-i-preserved g c =
-    let inv = c.loop-i.invariant in
-    (inv.0, length-set _ _ _ ∙ inv.1, free_more c.loop-i.self.nodes.now c.loop-i.i (omega (arith, inv.1)) inv.2)
+pub loop-node-preserved : goal.loop-node-preserved
+loop-node-preserved g c = free_more c.loop-node.node-items c.loop-node.node-index (omega arith) c.loop-node.invariant
 
 pub invariant_of-self-2 : goal.invariant_of-self-2
-invariant_of-self-2 g c = record { marks = free_marked 0 c.loop-i.self.nodes.now (λ i l. c.loop-i.invariant.2 i (omega (arith, c.loop-i.invariant.1))) }
+invariant_of-self-2 g c =
+    let free : (i : ℕ) → i < length c.loop-node.node-items → get_or c.loop-node.node-items i None ≡ None = λ i l. c.loop-node.invariant i (omega arith) in
+    (emptied g.K.Key.equals g.K.SpreadKey.spreads 0 c.loop-node.node-items _ refl (free_marked 0 c.loop-node.node-items free) (free_vacant 0 c.loop-node.node-items free)).0
 
 pub returns : goal.returns
 returns g c =
-    let xs = c.loop-i.self.nodes.now in
-    let eq = g.K.Key.equals in
-    let n = length c.args.self.now.nodes.now in
-    subst (λ h. Sound eq g.K.SpreadKey.spreads (length xs) (cells 0 xs) h × Empty n (seen eq (length xs) (cells 0 xs) h)) (sym c.loop-i.invariant.0)
-    (emptied eq g.K.SpreadKey.spreads _ _ (cells 0 xs) c.loop-i.invariant.1 (free_vacant 0 xs (λ i l. c.loop-i.invariant.2 i (omega (arith, c.loop-i.invariant.1)))))
+    let free : (i : ℕ) → i < length c.loop-node.node-items → get_or c.loop-node.node-items i None ≡ None = λ i l. c.loop-node.invariant i (omega arith) in
+    (emptied g.K.Key.equals g.K.SpreadKey.spreads 0 c.loop-node.node-items _
+    (c.loop-node.auto.node-items ∙ sym (length-map c.self.inside.nodes.now (cell c.self.inside.generation)) ∙ ap length c.self.view_is)
+    (free_marked 0 c.loop-node.node-items free) (free_vacant 0 c.loop-node.node-items free)).1

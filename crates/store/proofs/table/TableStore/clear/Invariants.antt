@@ -1,6 +1,5 @@
-use Rattle.std.proofs.Common.{◌≡◌, ℕ, ◌<◌, length, get_or}
-use Rattle.store.specs.declared.table.Slot.TheVariants.{Free}
+use Rattle.std.proofs.Common.{◌≡◌, ℕ, ◌<◌, get_or, None}
 use Rattle.store.proofs.table.TableStore.clear.Given as goal
 
-abbrev pub invariant-loop-i : goal.invariant-loop-i
-invariant-loop-i g l = (l.self.held ≡ 0) × (length l.self.nodes.now ≡ l.n) × ((k : ℕ) → k < l.i → get_or l.self.nodes.now k Free ≡ Free)
+abbrev pub invariant-loop-node : goal.invariant-loop-node
+invariant-loop-node g l = (k : ℕ) → k < l.node-index → get_or l.node-items k None ≡ None

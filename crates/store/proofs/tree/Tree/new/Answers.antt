@@ -5,7 +5,10 @@ use Rattle.store.proofs.tree.Tree.new.Goals as goal
 pub loop-node-preserved : goal.loop-node-preserved
 loop-node-preserved g c = free_more c.loop-node.nodes c.loop-node.node-index _ refl (omega arith) c.loop-node.invariant
 
+pub invariant_of-result : goal.invariant_of-result
+invariant_of-result g c =
+    ((emptied g.K.Key.equals g.K.OrderedKey.orders c.loop-node.nodes _ refl (λ i l. c.loop-node.invariant i (omega arith))).0, omega arith)
+
 pub returns : goal.returns
 returns g c =
-    let done = emptied g.K.Key.equals g.K.OrderedKey.orders c.loop-node.nodes _ _ c.loop-node.auto.nodes (omega arith) (λ i l. c.loop-node.invariant i (omega arith)) in
-    record { valid = done.0; empty = done.1 }
+    (emptied g.K.Key.equals g.K.OrderedKey.orders c.loop-node.nodes _ c.loop-node.auto.nodes (λ i l. c.loop-node.invariant i (omega arith))).1
