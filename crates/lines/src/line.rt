@@ -5,10 +5,11 @@ ghost use Rattle.lines.specs.Words.{word, words_of, stirred};
 ghost use Rattle.keys.proofs.Words.{words_self, words_sym, words_trans};
 
 use keys::{Key, OrderedKey, SpreadKey};
+use std::array;
 use std::cmp::Ordering;
 
 /// The first 64 bytes of a line, eight to a word. A shorter line goes on with zeros.
-#[derive(Clone, Copy)]
+#[derive(Clone, Copy, PartialEq, Eq, PartialOrd, Ord)]
 pub struct Line {
     words: [u64; 8],
 }
@@ -17,7 +18,7 @@ pub struct Line {
 fn byte_at(text: &[u8], i: usize) -> u8
     ensures { result ≡ slice_index text.now i }
 {
-    if i < text.len() { text[i] } else { 0 }
+    text.get(i).copied().unwrap_or(0)
 }
 
 /// The eight bytes from a place on as one number, the first the highest.
@@ -25,16 +26,7 @@ fn word_from(text: &[u8], i: usize) -> u64
     requires { i ≤ 56 }
     ensures { result ≡ word text.now i }
 {
-    u64::from_be_bytes([
-        byte_at(text, i),
-        byte_at(text, i + 1),
-        byte_at(text, i + 2),
-        byte_at(text, i + 3),
-        byte_at(text, i + 4),
-        byte_at(text, i + 5),
-        byte_at(text, i + 6),
-        byte_at(text, i + 7),
-    ])
+    u64::from_be_bytes(array::from_fn(|k| byte_at(text, i + k)))
 }
 
 /// Mixes a word into what was mixed before.
@@ -45,21 +37,12 @@ fn stir(mixed: u64, word: u64) -> u64
     product ^ (product >> 32)
 }
 
-impl Line {
-    pub fn new(text: &[u8]) -> Line
-        ensures { result.words ≡ words_of text.now }
-    {
+impl From<&[u8]> for Line {
+    ghost from_gives = { λ text line. line.words ≡ words_of text.now };
+
+    fn from(text: &[u8]) -> Line {
         Line {
-            words: [
-                word_from(text, 0),
-                word_from(text, 8),
-                word_from(text, 16),
-                word_from(text, 24),
-                word_from(text, 32),
-                word_from(text, 40),
-                word_from(text, 48),
-                word_from(text, 56),
-            ],
+            words: array::from_fn(|k| word_from(text, 8 * k)),
         }
     }
 }
@@ -74,7 +57,7 @@ impl Key for Line {
     ghost transitive = { λ x y z. words_trans x.words y.words z.words };
 
     fn same(&self, other: &Line) -> bool {
-        self.words == other.words
+        self == other
     }
 }
 
@@ -82,11 +65,7 @@ impl SpreadKey for Line {
     ghost spreads = { λ x. fold stirred 0 x.words };
 
     fn spread(&self) -> u64 {
-        let mut mixed = 0;
-        for word in self.words {
-            mixed = stir(mixed, word);
-        }
-        mixed
+        self.words.iter().fold(0, |mixed, word| stir(mixed, *word))
     }
 }
 
@@ -94,6 +73,6 @@ impl OrderedKey for Line {
     ghost orders = { λ x y. word_order x.words y.words };
 
     fn compare(&self, other: &Line) -> Ordering {
-        self.words.cmp(&other.words)
+        self.cmp(other)
     }
 }

@@ -1,11 +1,12 @@
 // Counts the lines of standard input by their first 64 bytes, in a store of the make and the capacity that are named.
 #![tactic(auto)]
 
-use anyhow::anyhow;
+use anyhow::{Result, anyhow, bail, ensure};
 use lines::{Line, tally};
 use std::env;
 use std::io::Read;
-use store::{Table, Tree, nodes, slots};
+use std::str::FromStr;
+use store::{Store, Table, Tree, nodes, slots};
 
 const USAGE: &str =
     "usage: tally MAKE CAPACITY .., where a MAKE is table or tree and a CAPACITY a number";
@@ -18,63 +19,84 @@ enum Make {
     Tree,
 }
 
-/// The makes and capacities that the arguments name, of which there is at least one.
-fn stores(rt: &HostRuntime) -> anyhow::Result<Vec<(Make, usize)>> {
-    let mut stores = Vec::new(rt.alloc());
-    let mut words = env::args(rt)?.skip(1);
-    while let Some(word) = words.next() {
-        let make = match word.as_str() {
-            "table" => Make::Table,
-            "tree" => Make::Tree,
-            _ => return Err(anyhow!(USAGE)),
-        };
-        let Some(capacity) = words.next() else {
-            return Err(anyhow!(USAGE));
-        };
-        let Ok(capacity) = capacity.as_str().parse::<usize>() else {
-            return Err(anyhow!(USAGE));
-        };
-        stores.push((make, capacity))?;
+impl FromStr for Make {
+    type Err = anyhow::Error;
+
+    fn from_str(word: &str) -> Result<Make> {
+        match word {
+            "table" => Ok(Make::Table),
+            "tree" => Ok(Make::Tree),
+            _ => bail!(USAGE),
+        }
     }
-    if stores.is_empty() {
-        return Err(anyhow!(USAGE));
+}
+
+/// A store that is asked for.
+#[derive(Clone, Copy)]
+struct Choice {
+    make: Make,
+    capacity: usize,
+}
+
+impl TryFrom<&[String]> for Choice {
+    type Error = anyhow::Error;
+
+    fn try_from(words: &[String]) -> Result<Choice> {
+        let [make, capacity] = words else {
+            bail!(USAGE);
+        };
+        Ok(Choice {
+            make: make.as_str().parse()?,
+            capacity: capacity.as_str().parse().map_err(|_| anyhow!(USAGE))?,
+        })
     }
-    Ok(stores)
+}
+
+/// The stores that the arguments name, of which there is at least one.
+fn choices(rt: &HostRuntime) -> Result<Vec<Choice>> {
+    let heap = rt.alloc();
+    let words: Vec<String> = env::args(rt)?.skip(1).collect(heap)?;
+    ensure!(!words.is_empty(), USAGE);
+    words
+        .as_slice()
+        .chunks(2)
+        .map(|pair| -> Result<Choice> { Choice::try_from(pair) })
+        .try_collect(heap)
 }
 
 /// Writes what came of each line of the text, and how many keys are then held.
-fn write_tally(rt: &HostRuntime, make: Make, capacity: usize, text: &[u8]) -> anyhow::Result<()> {
-    let heap = rt.alloc();
-    let mut out = String::new(heap);
-    let held = match make {
-        Make::Table => {
-            let Ok(mut slots) = slots::<Line>(heap, capacity) else {
-                return Err(anyhow!(NO_MEMORY));
-            };
-            tally(&mut Table::new(slots.as_mut_slice()), text, &mut out)?
-        }
-        Make::Tree => {
-            let Ok(mut nodes) = nodes::<Line>(heap, capacity) else {
-                return Err(anyhow!(NO_MEMORY));
-            };
-            tally(&mut Tree::new(nodes.as_mut_slice()), text, &mut out)?
-        }
-    };
+fn write_tally<S: Store<Line>>(rt: &HostRuntime, store: &mut S, text: &[u8]) -> Result<()> {
+    let mut out = String::new(rt.alloc());
+    let held = tally(store, text, &mut out)?;
     rt.print(out.as_str())?;
     println!(rt; "held {held}")?;
     Ok(())
 }
 
-fn run(rt: &HostRuntime) -> anyhow::Result<()> {
-    let stores = stores(rt)?;
-    let mut text = Vec::new(rt.alloc());
+fn run(rt: &HostRuntime) -> Result<()> {
+    let heap = rt.alloc();
+    let choices = choices(rt)?;
+    let mut text = Vec::new(heap);
     rt.stdin().read_to_end(&mut text)?;
-    for (make, capacity) in stores.iter() {
-        write_tally(rt, *make, *capacity, text.as_slice())?;
+    for choice in &choices {
+        match choice.make {
+            Make::Table => {
+                let mut nodes = slots::<Line>(heap, choice.capacity).map_err(|_| anyhow!(
+                    NO_MEMORY
+                ))?;
+                write_tally(rt, &mut Table::new(nodes.as_mut_slice()), text.as_slice())?;
+            }
+            Make::Tree => {
+                let mut nodes = nodes::<Line>(heap, choice.capacity).map_err(|_| anyhow!(
+                    NO_MEMORY
+                ))?;
+                write_tally(rt, &mut Tree::new(nodes.as_mut_slice()), text.as_slice())?;
+            }
+        }
     }
     Ok(())
 }
 
-fn main(rt: HostRuntime) -> anyhow::Result<()> {
+fn main(rt: HostRuntime) -> Result<()> {
     run(&rt)
 }

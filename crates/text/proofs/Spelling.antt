@@ -6,7 +6,7 @@ use Rattle.text.specs.Numerals.{Digit, Spells, Numeral, Numerals}
 -- more digits make no number less
 pub grows : (v : ℕ) (cs : List ℕ) (n : ℕ) → Spells v cs n → v ≤ n
 grows v [] n e = omega arith
-grows v (c ∷ cs) n s = let h : v * 10 + (c - 48) ≤ n = grows (v * 10 + (c - 48)) cs n s.1 in omega arith
+grows v (c ∷ cs) n s = omega (arith, grows (v * 10 + (c - 48)) cs n s.1)
 
 -- what the digit at the place i says of the rest
 pub next_digit : (v : ℕ) (cs : List ℕ) (i n : ℕ) → i < length cs → Spells v (drop i cs) n
@@ -24,7 +24,7 @@ made_of v cs i le = subst (λ ds. Spells v ds v) (sym (at_drop_all (λ ds. ds) c
 -- texts that have a first: what it spells, and what the others do
 pub first_spelled : (left : List (List ℕ)) (t : List ℕ) (ts : List (List ℕ)) → left ≡ t ∷ ts → (ns : List ℕ) → Numerals left ns
     → (n : ℕ) × (ms : List ℕ) × Numeral t n × Numerals ts ms
-first_spelled [] t ts e ns h = let z : ◌≡◌ {A = ℕ} 0 1 = cc in absurd (omega arith)
+first_spelled [] t ts e ns h = absurd (grind arith)
 first_spelled (u ∷ us) t ts e [] h = absurd h
 first_spelled (u ∷ us) t ts e (n ∷ ms) h =
     let first : u ≡ t = cc

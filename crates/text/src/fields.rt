@@ -9,12 +9,10 @@ ghost use Rattle.std.specs.Iterator.{at_most};
 fn cut(text: &[u8], by: u8) -> (&[u8], Option<&[u8]>)
     ensures { pieces by text.now ≡ result.0.now ∷ pieces_left by result.1 }
 {
-    for (i, byte) in text.iter().enumerate() {
-        if *byte == by {
-            return (&text[0..i], Some(&text[i + 1..]));
-        }
+    match text.iter().position(|byte| *byte == by) {
+        Some(i) => (&text[..i], Some(&text[i + 1..])),
+        None => (text, None),
     }
-    (text, None)
 }
 
 /// The pieces of a text between the bytes that part them.
@@ -39,18 +37,16 @@ impl<'a> Iterator for Pieces<'a> {
 }
 
 /// The lines of a text. Each ends with a line feed, which the last may lack.
+#[tactic(auto, using(crate::proofs::Endings::no_lines, crate::proofs::Endings::last_ended, crate::proofs::Endings::last_open))]
 pub fn lines(text: &[u8]) -> Pieces<'_>
     ensures { to_come result ≡ lines_of text.now }
 {
-    let by = b'\n';
-    let Some((last, front)) = text.split_last() else {
-        return Pieces { rest: None, by };
+    let rest = match text {
+        [] => None,
+        [front @ .., b'\n'] => Some(front),
+        _ => Some(text),
     };
-    let rest = if *last == by { front } else { text };
-    Pieces {
-        rest: Some(rest),
-        by,
-    }
+    Pieces { rest, by: b'\n' }
 }
 
 /// The fields of a line, with one space between two.
@@ -74,6 +70,7 @@ fn with_digit(value: u8, byte: u8) -> Option<u8>
 }
 
 /// The number up to 255 that one to three decimal digits spell.
+#[tactic(auto, using(crate::proofs::Spelling::grows, crate::proofs::Spelling::next_digit, crate::proofs::Spelling::with_next, crate::proofs::Spelling::made_of))]
 pub fn number(text: &[u8]) -> Option<u8>
     ensures { MatchOption result ((n : ℕ) → Numeral text.now n → ⊥) (λ n. Numeral text.now n) }
 {
@@ -81,8 +78,8 @@ pub fn number(text: &[u8]) -> Option<u8>
         return None;
     }
     let mut value = 0;
-    for byte in text {
-        value = with_digit(value, *byte)?;
+    for &byte in text {
+        value = with_digit(value, byte)?;
     }
     Some(value)
 }
