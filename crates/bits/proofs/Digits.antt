@@ -1,138 +1,91 @@
 -- The digits of a word: what `&`, `|`, `!`, `1 << s`, `count_ones` and `trailing_zeros` make of each, and sums and lists over them.
-use Rattle.std.proofs.Common.{◌≡◌, ℕ, zero, suc, ◌+◌, ◌-◌, ◌*◌, ◌/◌, ◌%◌, ◌^◌, ◌<◌, ◌≤◌, min, max, ◌≢◌, [], ◌∷◌, sym, refl, ap, ◌∙◌, ap₂, ⊎_elim, suc-le-suc, lt_of_lt_of_le, le_of_suc-le-suc, not-suc-le-zero, mod-lt, pow-suc, div-one, one-add, arith, pow_pos, pow_mono, shr-shr}
-use native.Mathlib.Nat.{zero-div, div-eq_of_lt}
+use Rattle.std.proofs.Common.{◌≡◌, ℕ, zero, suc, ◌+◌, ◌-◌, ◌*◌, ◌/◌, ◌%◌, ◌^◌, ◌<◌, ◌≤◌, min, max, ◌≢◌, [], ◌∷◌, refl, sym, ap, ◌∙◌, ap₂, ⊎_elim, pow-suc, arith, w64}
 use lib.Arith.{lt-one}
-use lib.Bits.{bit_and, bit_or, and_step, or_step, and_shr, or_shr, and_mask}
-use lib.Count.{ones, count_trailing_zeros, under, ones_step}
-use Rattle.std.proofs.lemmas.Nat.{one_shl}
+use lib.Bits.{bit_and, bit_or}
+use lib.Count.{ones, count_trailing_zeros, ones_step}
+use Rattle.std.proofs.lemmas.Nat.{or_lt}
+use Rattle.std.proofs.lemmas.Nat.Bits.{bit_at_lowest, bit_at-suc, bit_at-zero, shr_and_one, bit_at_and, bit_at_or, bit_at_not, bit_at-trailing_zeros, bit_at_set_same, bit_at_set_other, bit_at_clear_same, bit_at_clear_other, bit_at-lt, same_from_bits_below, bit_at_above}
 use Rattle.std.proofs.lemmas.Bool.{cases_eq, cases_lt}
 use Rattle.bits.specs.Digits.{digit, tally, pick, chosen}
 
 pub digit_lt : (n k : ℕ) → digit n k < 2
 unfolding digit
-digit_lt n k = let two : 0 < 2 = omega arith in mod-lt (n / 2 ^ k) two
+digit_lt = bit_at-lt
 
 pub digit_zero : (n : ℕ) → digit n 0 ≡ n % 2
 unfolding digit
-digit_zero n = ap (λ (x : ℕ). x % 2) (div-one n)
+digit_zero = bit_at_lowest
 
 pub digit_suc : (n k : ℕ) → digit n (suc k) ≡ digit (n / 2) k
 unfolding digit
-digit_suc n k =
-    ap (λ (x : ℕ). n / 2 ^ x % 2) (sym (one-add k)) ∙ ap (λ (x : ℕ). x % 2) (sym (shr-shr n 1 k))
+digit_suc = bit_at-suc
 
 pub digit_of_zero : (k : ℕ) → digit 0 k ≡ 0
 unfolding digit
-digit_of_zero k = ap (λ (x : ℕ). x % 2) (zero-div (2 ^ k))
+digit_of_zero = bit_at-zero
 
 pub digit_high : (w n k : ℕ) → n < 2 ^ w → w ≤ k → digit n k ≡ 0
 unfolding digit
-digit_high w n k h l = ap (λ (x : ℕ). x % 2) (div-eq_of_lt (lt_of_lt_of_le h (pow_mono l)))
+digit_high w n k h l = bit_at_above n w k h l
 
 -- two words with the same digits are one
 pub digit_ext : (w a b : ℕ) → a < 2 ^ w → b < 2 ^ w → ((k : ℕ) → k < w → digit a k ≡ digit b k) → a ≡ b
-digit_ext zero a b ha hb e = omega arith
-digit_ext (suc w) a b ha hb e =
-    let p = pow-suc 2 w in
-    let lo : a % 2 ≡ b % 2 = sym (digit_zero a) ∙ e 0 (omega arith) ∙ digit_zero b in
-    let hi : a / 2 ≡ b / 2 =
-    digit_ext w (a / 2) (b / 2) (omega arith) (omega arith)
-    (λ k h. sym (digit_suc a k) ∙ e (suc k) (suc-le-suc h) ∙ digit_suc b k) in
-    omega arith
+unfolding digit
+digit_ext = same_from_bits_below
 
 pub digit_and : (a b k : ℕ) → digit (bit_and a b) k ≡ min (digit a k) (digit b k)
 unfolding digit
-digit_and a b k =
-    ap (λ (x : ℕ). x % 2) (and_shr a b k) ∙ omega (arith, and_step (a / 2 ^ k) (b / 2 ^ k))
+digit_and = bit_at_and
 
 pub digit_or : (a b k : ℕ) → digit (bit_or a b) k ≡ max (digit a k) (digit b k)
 unfolding digit
-digit_or a b k =
-    ap (λ (x : ℕ). x % 2) (or_shr a b k) ∙ omega (arith, or_step (a / 2 ^ k) (b / 2 ^ k))
+digit_or = bit_at_or
+
+pub or_of_64 : (a b : ℕ) → a < 2 ^ 64 → b < 2 ^ 64 → bit_or a b < 2 ^ 64
+or_of_64 = or_lt 64
 
 -- `(n >> k) & 1`
 pub digit_and_one : (n k : ℕ) → bit_and (n / 2 ^ k) 1 ≡ digit n k
 unfolding digit
-digit_and_one n k = and_mask (n / 2 ^ k) 1
-
--- `!m`, of w digits
-digit_not : (w m k : ℕ) → m < 2 ^ w → k < w → digit ((2 ^ w - 1) - m) k ≡ 1 - digit m k
-digit_not zero m k h l = absurd (not-suc-le-zero l)
-digit_not (suc w) m zero h l =
-    let p = pow-suc 2 w in
-    digit_zero ((2 ^ suc w - 1) - m) ∙ (omega (arith, digit_zero m, pow_pos w))
-digit_not (suc w) m (suc k) h l =
-    let p = pow-suc 2 w in
-    let half : ((2 ^ suc w - 1) - m) / 2 ≡ (2 ^ w - 1) - m / 2 = omega (arith, pow_pos w) in
-    digit_suc ((2 ^ suc w - 1) - m) k ∙ ap (λ (x : ℕ). digit x k) half
-    ∙ digit_not w (m / 2) k (omega arith) (omega arith)
-    ∙ ap (λ (x : ℕ). 1 - x) (sym (digit_suc m k))
+digit_and_one = shr_and_one
 
 -- `a & !b`
-pub digit_minus : (w a b k : ℕ) → a < 2 ^ w → b < 2 ^ w → digit (bit_and a ((2 ^ w - 1) - b)) k ≡ digit a k - digit b k
-digit_minus w a b k ha hb =
-    digit_and a ((2 ^ w - 1) - b) k
+pub digit_minus : (a b k : ℕ) → a < 2 ^ 64 → b < 2 ^ 64 → digit (bit_and a (2 ^ 64 - 1 - b)) k ≡ digit a k - digit b k
+unfolding digit
+digit_minus a b k ha hb =
+    bit_at_and a (2 ^ 64 - 1 - b) k
     ∙ ⊎_elim
-    (λ (l : k < w). omega (arith, digit_not w b k hb l, digit_lt a k, digit_lt b k))
-    (λ (l : w ≤ k). omega (arith, digit_high w a k ha l))
-    (cases_lt k w)
+    (λ (l : k < 64). omega (arith, bit_at_not w64 b k hb l, bit_at-lt a k, bit_at-lt b k))
+    (λ (l : 64 ≤ k). omega (arith, bit_at_above a 64 k ha l))
+    (cases_lt k 64)
 
-pow_half : (s : ℕ) → 2 ^ suc s / 2 ≡ 2 ^ s
-pow_half s = omega (arith, pow-suc 2 s)
+-- `n | 1 << s`
+pub digit_with_here : (n s : ℕ) → s < 64 → digit (bit_or n (1 * 2 ^ s % 2 ^ 64)) s ≡ 1
+unfolding digit
+digit_with_here = bit_at_set_same w64
 
--- `1 << s`, of w digits
-pub digit_one_here : (w s : ℕ) → s < w → digit ((1 * 2 ^ s) % 2 ^ w) s ≡ 1
-digit_one_here w s h = ap (λ (x : ℕ). digit x s) (one_shl s w h) ∙ go s
-  where
-    go : (s : ℕ) → digit (2 ^ s) s ≡ 1
-    go zero = digit_zero 1
-    go (suc s) = digit_suc (2 ^ suc s) s ∙ ap (λ (x : ℕ). digit x s) (pow_half s) ∙ go s
+pub digit_with_other : (n s k : ℕ) → s < 64 → k ≢ s → digit (bit_or n (1 * 2 ^ s % 2 ^ 64)) k ≡ digit n k
+unfolding digit
+digit_with_other n s k h ne = bit_at_set_other w64 n s h k ne
 
-pub digit_one_other : (w s k : ℕ) → s < w → k ≢ s → digit ((1 * 2 ^ s) % 2 ^ w) k ≡ 0
-digit_one_other w s k h ne = ap (λ (x : ℕ). digit x k) (one_shl s w h) ∙ go s k ne
-  where
-    go : (s k : ℕ) → k ≢ s → digit (2 ^ s) k ≡ 0
-    go zero zero ne = absurd (ne refl)
-    go zero (suc k) ne = digit_suc 1 k ∙ digit_of_zero k
-    go (suc s) zero ne = digit_zero (2 ^ suc s) ∙ omega (arith, pow-suc 2 s)
-    go (suc s) (suc k) ne = digit_suc (2 ^ suc s) k ∙ ap (λ (x : ℕ). digit x k) (pow_half s) ∙ go s k (λ e. ne (ap suc e))
+-- `n & !(1 << s)`
+pub digit_without_here : (n s : ℕ) → s < 64 → digit (bit_and n (2 ^ 64 - 1 - 1 * 2 ^ s % 2 ^ 64)) s ≡ 0
+unfolding digit
+digit_without_here = bit_at_clear_same w64
 
--- the lowest one of a word
-pub trailing_here : (w m : ℕ) → count_trailing_zeros w m < w → digit m (count_trailing_zeros w m) ≡ 1
-unfolding count_trailing_zeros
-trailing_here zero m h = absurd (not-suc-le-zero h)
-trailing_here (suc w) m h = go (trailing_here w (m / 2)) (m % 2) refl h
-  where
-    go : (count_trailing_zeros w (m / 2) < w → digit (m / 2) (count_trailing_zeros w (m / 2)) ≡ 1)
-        → (d : ℕ) → m % 2 ≡ d → under d (count_trailing_zeros w (m / 2)) < suc w → digit m (under d (count_trailing_zeros w (m / 2))) ≡ 1
-    go ih zero e l = digit_suc m (count_trailing_zeros w (m / 2)) ∙ ih (le_of_suc-le-suc l)
-    go ih (suc d) e l = digit_zero m ∙ omega arith
-
-pub trailing_below : (w m k : ℕ) → k < count_trailing_zeros w m → digit m k ≡ 0
-unfolding count_trailing_zeros
-trailing_below zero m k h = absurd (not-suc-le-zero h)
-trailing_below (suc w) m k h = go (trailing_below w (m / 2)) (m % 2) refl k h
-  where
-    go : ((k : ℕ) → k < count_trailing_zeros w (m / 2) → digit (m / 2) k ≡ 0)
-        → (d : ℕ) → m % 2 ≡ d → (k : ℕ) → k < under d (count_trailing_zeros w (m / 2)) → digit m k ≡ 0
-    go ih zero e zero l = digit_zero m ∙ e
-    go ih zero e (suc k) l = digit_suc m k ∙ ih k (le_of_suc-le-suc l)
-    go ih (suc d) e k l = absurd (not-suc-le-zero l)
-
--- a word that is not 0 has a one
-pub digit_some : (w m : ℕ) → m < 2 ^ w → 0 < m → (k : ℕ) × (k < w) × (digit m k ≡ 1)
-digit_some w m h pos =
+pub digit_without_other : (n s k : ℕ) → n < 2 ^ 64 → s < 64 → k ≢ s → digit (bit_and n (2 ^ 64 - 1 - 1 * 2 ^ s % 2 ^ 64)) k ≡ digit n k
+unfolding digit
+digit_without_other n s k f h ne =
     ⊎_elim
-    (λ (l : count_trailing_zeros w m < w). (count_trailing_zeros w m, l, trailing_here w m l))
-    (λ (l : w ≤ count_trailing_zeros w m).
-    let none : m ≡ 0 =
-    digit_ext w m 0 h (pow_pos w) (λ k b. trailing_below w m k (lt_of_lt_of_le b l) ∙ sym (digit_of_zero k)) in
-    absurd (omega arith))
-    (cases_lt (count_trailing_zeros w m) w)
+    (λ (l : k < 64). bit_at_clear_other w64 n s h k l ne)
+    (λ (l : 64 ≤ k). omega (arith, bit_at_and n (2 ^ 64 - 1 - 1 * 2 ^ s % 2 ^ 64) k, bit_at_above n 64 k f l))
+    (cases_lt k 64)
 
-pub digit_pos : (m k : ℕ) → digit m k ≡ 1 → 0 < m
-digit_pos zero k e = absurd (omega (arith, digit_of_zero k))
-digit_pos (suc m) k e = omega arith
+-- the lowest one of a word that is not 0
+pub trailing : (m : ℕ) → 0 < m → m < 2 ^ 64
+    → (count_trailing_zeros 64 m < 64) × (digit m (count_trailing_zeros 64 m) ≡ 1) × ((k : ℕ) → k < count_trailing_zeros 64 m → digit m k ≡ 0)
+unfolding digit
+trailing = bit_at-trailing_zeros w64
 
 pub tally_cong : (f g : ℕ → ℕ) (n : ℕ) → ((k : ℕ) → k < n → f k ≡ g k) → tally f n ≡ tally g n
 unfolding tally

@@ -1,19 +1,13 @@
--- A square is one by its number, a plane by its squares.
-use Rattle.std.proofs.Common.{◌≡◌, ℕ, ◌^◌, ◌<◌, ◌≤◌, ◌⊎◌, ap, ◌∙◌, inl, inr, arith}
+-- A plane is one by its squares.
+use Rattle.std.proofs.Common.{◌≡◌, ℕ, ◌^◌, ◌<◌, ◌≤◌, ap, ◌∙◌, ⊎_elim, arith}
+use lib.Count.{count_trailing_zeros}
 use mathlib.Core.HLevel.{is_prop→PathP}
 use native.Mathlib.Bridge.{le_prop}
 use Rattle.std.proofs.lemmas.Bool.{cases_lt}
-use Rattle.bits.specs.declared.square.Square.{Square}
 use Rattle.bits.specs.declared.plane.Plane.{Plane}
 use Rattle.bits.specs.Digits.{digit}
 use Rattle.bits.specs.Planes.{on}
-use Rattle.bits.proofs.Digits.{digit_lt, digit_high, digit_ext, digit_of_zero, digit_some}
-
-pub square_same : (s t : Square) → s.number ≡ t.number → s ≡ t
-square_same s t e = λ i. record {
-  number = e i;
-  below = is_prop→PathP (λ j. e j < 64) (λ j. le_prop) s.below t.below i;
-}
+use Rattle.bits.proofs.Digits.{digit_lt, digit_high, digit_ext, digit_of_zero, trailing}
 
 pub plane_by_word : (p q : Plane) → p.word ≡ q.word → p ≡ q
 plane_by_word p q e = λ i.
@@ -30,10 +24,10 @@ on_high p k h = digit_high 64 p.word k p.fits h
 
 -- a plane that is not empty has a square
 pub some_square : (p : Plane) → (((k : ℕ) → on p k ≡ 0) → ⊥) → (k : ℕ) × (on p k ≡ 1)
-some_square p some = go (cases_lt 0 p.word)
-  where
-    go : (0 < p.word) ⊎ (p.word ≤ 0) → (k : ℕ) × (on p k ≡ 1)
-    go (inl h) = let s = digit_some 64 p.word p.fits h in (s.0, s.2)
-    go (inr h) =
-        let e : p.word ≡ 0 = omega arith in
-        absurd (some (λ k. ap (λ (w : ℕ). digit w k) e ∙ digit_of_zero k))
+some_square p some =
+    ⊎_elim
+    (λ (h : 0 < p.word). let t = trailing p.word h p.fits in (count_trailing_zeros 64 p.word, t.1))
+    (λ (h : p.word ≤ 0).
+    let e : p.word ≡ 0 = omega arith in
+    absurd (some (λ k. ap (λ (w : ℕ). digit w k) e ∙ digit_of_zero k)))
+    (cases_lt 0 p.word)

@@ -1,42 +1,36 @@
 -- A word shifted by a row or a column, where a mask drops the column that would wrap.
-use Rattle.std.proofs.Common.{◌≡◌, ℕ, zero, suc, ◌+◌, ◌-◌, ◌*◌, ◌/◌, ◌%◌, ◌^◌, ◌<◌, ◌≤◌, Bool, true, cond, ◌&&◌, eqb, ◌≢◌, sym, refl, ap, ◌∙◌, ⊎_elim, le_of_suc-le-suc, not-suc-le-zero, arith, shr-shr}
-use lib.Bits.{bit_and, shifted_half, shifted_even}
-use lib.Pow.{shl-shr, field, mod-mod-pow}
+use Rattle.std.proofs.Common.{◌≡◌, ℕ, zero, suc, ◌+◌, ◌-◌, ◌*◌, ◌/◌, ◌%◌, ◌^◌, ◌<◌, ◌≤◌, Bool, true, cond, ◌&&◌, eqb, ◌≢◌, sym, refl, ap, ◌∙◌, ⊎_elim, arith, pow_pos, shr-shr, add-zero}
+use lib.Bits.{bit_and}
+use Rattle.std.proofs.Math.Nat.{mod-add-div, mul_comm}
+use Rattle.std.specs.Int.{bit_at}
+use Rattle.std.proofs.lemmas.Nat.Bits.{bit_at-zero, bit_at_cat_low, bit_at_cat_high}
 use Rattle.std.proofs.lemmas.Bool.Decides.{Decides-eqb, Decides-below_and, nat_tests}
 use Rattle.std.proofs.lemmas.Bool.{cases_lt}
 use Rattle.bits.specs.declared.direction.Direction.{Direction}
 use Rattle.bits.specs.declared.direction.Direction.TheVariants.{North, East, South, West}
 use Rattle.bits.specs.Digits.{digit}
 use Rattle.bits.specs.Squares.{column, Toward}
-use Rattle.bits.proofs.Digits.{digit_lt, digit_zero, digit_suc, digit_high, digit_and}
+use Rattle.bits.proofs.Digits.{digit_lt, digit_high, digit_and}
 
-digit_mod : (w n k : ℕ) → k < w → digit (n % 2 ^ w) k ≡ digit n k
-unfolding digit
-digit_mod w n k h =
-    ap (λ (x : ℕ). n % 2 ^ x / 2 ^ k % 2) (omega arith)
-    ∙ ap (λ (x : ℕ). x % 2) (field n (w - k) k)
-    ∙ ap (λ (x : ℕ). n / 2 ^ k % 2 ^ x % 2) (omega arith)
-    ∙ mod-mod-pow (n / 2 ^ k) (w - k - 1) 1
-
+-- `m >> j`
 digit_shr : (m j k : ℕ) → digit (m / 2 ^ j) k ≡ digit m (j + k)
 unfolding digit
 digit_shr m j k = ap (λ (x : ℕ). x % 2) (shr-shr m j k)
 
+digit_mod : (w n k : ℕ) → k < w → digit (n % 2 ^ w) k ≡ digit n k
+unfolding digit
+digit_mod w n k h =
+    let whole : n / 2 ^ w * 2 ^ w + n % 2 ^ w ≡ n = omega (arith, mod-add-div n (2 ^ w), mul_comm (n / 2 ^ w) (2 ^ w)) in
+    sym (bit_at_cat_low (n / 2 ^ w) w (n % 2 ^ w) k h) ∙ ap (λ (x : ℕ). bit_at x k) whole
+
+-- `m << j`, of w digits
 digit_shl : (w m j k : ℕ) → k < w → j ≤ k → digit ((m * 2 ^ j) % 2 ^ w) k ≡ digit m (k - j)
-digit_shl w m j k h l =
-    digit_mod w (m * 2 ^ j) k h
-    ∙ ap (digit (m * 2 ^ j)) (omega arith)
-    ∙ sym (digit_shr (m * 2 ^ j) j (k - j))
-    ∙ ap (λ (x : ℕ). digit x (k - j)) (shl-shr m j)
+unfolding digit
+digit_shl w m j k h l = digit_mod w (m * 2 ^ j) k h ∙ rw add-zero at (bit_at_cat_high m j 0 k (pow_pos j) l)
 
 digit_shl_low : (w m j k : ℕ) → k < w → k < j → digit ((m * 2 ^ j) % 2 ^ w) k ≡ 0
-digit_shl_low w m j k h l = digit_mod w (m * 2 ^ j) k h ∙ go j k l
-  where
-    go : (j k : ℕ) → k < j → digit (m * 2 ^ j) k ≡ 0
-    go zero k l = absurd (not-suc-le-zero l)
-    go (suc j) zero l = digit_zero (m * 2 ^ suc j) ∙ shifted_even m j
-    go (suc j) (suc k) l =
-        digit_suc (m * 2 ^ suc j) k ∙ ap (λ (x : ℕ). digit x k) (shifted_half m j) ∙ go j k (le_of_suc-le-suc l)
+unfolding digit
+digit_shl_low w m j k h l = digit_mod w (m * 2 ^ j) k h ∙ rw add-zero at (bit_at_cat_low m j 0 k l ∙ bit_at-zero k)
 
 -- the mask has every column but c, by a test of each square
 abbrev pub all_but : ℕ → ℕ → ℕ → Bool

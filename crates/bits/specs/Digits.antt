@@ -1,9 +1,10 @@
 -- The binary digits of a word, and sums and lists over places.
-use Rattle.std.specs.Prelude.{ℕ, zero, suc, ◌+◌, ◌/◌, ◌%◌, ◌^◌, List, [], ◌∷◌}
+use Rattle.std.specs.Prelude.{ℕ, zero, suc, ◌+◌, List, [], ◌∷◌}
+use Rattle.std.specs.Int.{bit_at}
 
 -- the digit of n at place k: 0 or 1
 unfoldable pub digit : ℕ → ℕ → ℕ
-digit n k = n / 2 ^ k % 2
+digit n k = bit_at n k
 
 -- f 0 + f 1 + .. + f (n - 1)
 unfoldable pub tally : (ℕ → ℕ) → ℕ → ℕ

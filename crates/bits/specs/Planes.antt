@@ -1,11 +1,15 @@
 -- Planes as sets of squares.
-use Rattle.std.specs.Prelude.{ℕ, List}
+use Rattle.std.specs.Prelude.{◌≡◌, ℕ, List}
 use Rattle.bits.specs.declared.plane.Plane.{Plane}
 use Rattle.bits.specs.Digits.{digit, chosen}
 
 -- 1 where the square s is in the plane, else 0
 abbrev pub on : Plane → ℕ → ℕ
 on p s = digit p.word s
+
+-- the squares of the plane are those that a property holds of
+abbrev pub SquaresWhere : Plane → (ℕ → Type 0) → Type 0
+SquaresWhere p P = (s : ℕ) → (on p s ≡ 1 → P s) × (P s → on p s ≡ 1)
 
 -- the squares of the plane in ascending order
 abbrev pub squares : Plane → List ℕ

@@ -1,5 +1,6 @@
 pub mod Holding
 pub mod Same
 pub mod Traps
-pub mod Lone
 pub mod Reading
+pub mod EachKind
+pub mod FromFn

@@ -1,5 +1,5 @@
 -- What stands on each square of a board.
-use Rattle.std.specs.Prelude.{◌≡◌, ℕ, zero, suc, ◌<◌, ◌≢◌, List, [], ◌∷◌, Some, None, Option, Bool, ◌==◌}
+use Rattle.std.specs.Prelude.{◌≡◌, ℕ, zero, suc, ◌+◌, ◌*◌, ◌<◌, ◌≤◌, ◌≢◌, List, [], ◌∷◌, Some, None, Option, Bool, cond, ◌==◌}
 use Rattle.std.specs.Ordering.{eq_of_both, on as by}
 use Rattle.bits.specs.Planes.{on}
 use Rattle.board.specs.declared.pieces.Side.{Side}
@@ -25,6 +25,15 @@ decode g zero (suc b) (suc c) = holding g Dog
 decode g (suc a) zero zero = holding g Horse
 decode g (suc a) zero (suc c) = holding g Camel
 decode g (suc a) (suc b) c = holding g Elephant
+
+abbrev pub bit : Bool → ℕ
+bit b = cond b 1 0
+
+-- the digits of Gold, of the ones, of the twos and of the fours are those of a square that holds c
+pub record Spells (gold one two four : Bool) (c : Option Piece) : Type 0 where
+  pub decodes : decode (bit gold) (bit four) (bit two) (bit one) ≡ c
+  pub strength : bit one + 2 * bit two + 4 * bit four ≤ 6
+  pub occupied : bit gold ≤ bit one + 2 * bit two + 4 * bit four
 
 -- what stands on the square s
 abbrev pub cell : Board → ℕ → Option Piece

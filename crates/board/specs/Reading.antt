@@ -1,10 +1,12 @@
 -- Boards and setups written as letters, and when they are refused.
-use Rattle.std.specs.Prelude.{◌≡◌, ℕ, ◌+◌, ◌<◌, ◌≤◌, ◌≢◌, ◌⊎◌, List, [], ◌∷◌, length, Some, None, Option, slice_index}
+use Rattle.std.specs.Prelude.{◌≡◌, ℕ, ◌+◌, ◌<◌, ◌≤◌, ◌≢◌, ◌⊎◌, List, [], ◌∷◌, length, map, Some, None, Ok, Option, Result, slice_index}
+use Rattle.std.specs.List.{range_with_len}
 use Rattle.board.specs.declared.pieces.Side.{Side}
 use Rattle.board.specs.declared.pieces.Side.TheVariants.{Gold, Silver}
 use Rattle.board.specs.declared.pieces.Kind.{Kind}
 use Rattle.board.specs.declared.pieces.Piece.{Piece}
 use Rattle.board.specs.declared.board.Board.{Board}
+use Rattle.board.specs.declared.refusal.Refusal.{Refusal}
 use Rattle.board.specs.Pieces.{full}
 use Rattle.board.specs.Letters.{letter_by, spelled}
 use Rattle.board.specs.Cells.{cell}
@@ -15,6 +17,24 @@ use Rattle.board.specs.Refusals.{Check}
 -- the board has what 64 letters say, in the order of the squares
 abbrev pub Shows : List ℕ → Board → Type 0
 Shows letters b = (s : ℕ) → s < 64 → slice_index letters s ≡ spelled (cell b s)
+
+-- the letters of the board's squares, in the order of their numbers
+abbrev pub letters_of : Board → List ℕ
+letters_of b = map (λ s. spelled (cell b s)) (range_with_len 0 64)
+
+-- the board has what the letters are read as on the squares from the first on, and nothing else
+pub record LaidOut (Reads : ℕ → Result (Option Piece) Refusal → Type 0) (first : ℕ) (letters : List ℕ) (b : Board) : Type 0 where
+  pub placed : (k : ℕ) → k < length letters → Reads (slice_index letters k) (Ok (cell b (first + k)))
+  pub bare : (s : ℕ) → (s < first) ⊎ (first + length letters ≤ s) → cell b s ≡ None
+
+-- a board is read from letters
+abbrev pub board_checks : List ℕ → List Check
+board_checks letters =
+    -- not 64 letters
+    (6, length letters ≢ 64) ∷
+    -- a byte that is no letter of a square
+    (8, (k : ℕ) × (k < length letters) × ((c : Option Piece) → slice_index letters k ≢ spelled c)) ∷
+    []
 
 -- a position is read from letters and a side number
 abbrev pub position_checks : List ℕ → ℕ → List Check

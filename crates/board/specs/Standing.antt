@@ -24,12 +24,23 @@ pub record StrongerNext (b : Board) (s : ℕ) (p : Piece) : Type 0 where
   pub enemy : piece.side ≡ opponent p.side
   pub stronger : Stronger piece.kind p.kind
 
+-- a stronger enemy of the piece p is next to the square s, and no friend is
+abbrev pub Held : Board → ℕ → Piece → Type 0
+Held b s p = StrongerNext b s p × (FriendNext b s p.side → ⊥)
+
 -- a piece is frozen when a stronger enemy is next to it and no friend is
 pub record Frozen (b : Board) (s : ℕ) : Type 0 where
   pub piece : Piece
   pub there : cell b s ≡ Some piece
   pub threat : StrongerNext b s piece
   pub alone : FriendNext b s piece.side → ⊥
+
+-- a piece of the side stands on the square s with no friend next to it
+pub record Lone (b : Board) (side : Side) (s : ℕ) : Type 0 where
+  pub piece : Piece
+  pub there : cell b s ≡ Some piece
+  pub mine : piece.side ≡ side
+  pub alone : FriendNext b s side → ⊥
 
 -- the traps: c3, f3, c6 and f6
 abbrev pub Trap : ℕ → Type 0

@@ -1,16 +1,19 @@
 // The two sides, the six kinds of piece, and the letters that they are written with.
-ghost use Rattle.std.specs.Prelude.{◌≡◌, ◌<◌, ◌≤◌, Some, Decides, MatchOption};
-ghost use Rattle.board.specs.Pieces.{opponent, side_number, power, Stronger, full};
-ghost use Rattle.board.specs.Letters.{letter_of};
+ghost use Rattle.std.specs.Prelude.{◌≡◌, ◌∷◌, [], Some, Decides};
+ghost use Rattle.board.specs.Pieces.{opponent, side_number, SideRead, power, Stronger, full};
+ghost use Rattle.board.specs.Letters.{letter_of, LetterRead};
 
-#[derive(Clone, Copy, PartialEq, Eq)]
+use crate::Refusal;
+use std::fmt;
+
+#[derive(Clone, Copy, Debug, PartialEq, Eq)]
 pub enum Side {
     Gold,
     Silver,
 }
 
 /// The kinds, the strongest first.
-#[derive(Clone, Copy, PartialEq, Eq)]
+#[derive(Clone, Copy, Debug, PartialEq, Eq)]
 pub enum Kind {
     Elephant,
     Camel,
@@ -20,23 +23,15 @@ pub enum Kind {
     Rabbit,
 }
 
-#[derive(Clone, Copy, PartialEq, Eq)]
+#[derive(Clone, Copy, Debug, PartialEq, Eq)]
 pub struct Piece {
     pub side: Side,
     pub kind: Kind,
 }
 
 impl Side {
-    /// The side with the number: 0 is Gold, 1 is Silver.
-    pub fn from_number(number: u8) -> Option<Side>
-        ensures { MatchOption result (1 < number) (λ side. side_number side ≡ number) }
-    {
-        match number {
-            0 => Some(Side::Gold),
-            1 => Some(Side::Silver),
-            _ => None,
-        }
-    }
+    /// Each side once, in the order of their numbers.
+    pub const ALL: [Side; 2] = [Side::Gold, Side::Silver];
 
     pub fn other(self) -> Side
         ensures { result ≡ opponent self }
@@ -48,7 +43,41 @@ impl Side {
     }
 }
 
+/// The side with the number: 0 is Gold, 1 is Silver.
+impl TryFrom<u8> for Side {
+    type Error = Refusal;
+
+    ghost try_from_gives = { SideRead };
+
+    fn try_from(number: u8) -> Result<Side, Refusal> {
+        match number {
+            0 => Ok(Side::Gold),
+            1 => Ok(Side::Silver),
+            _ => Err(Refusal::SideNumber),
+        }
+    }
+}
+
+/// The number of a side: 0 for Gold, 1 for Silver.
+impl From<Side> for u8 {
+    ghost from_gives = { λ side number. number ≡ side_number side };
+
+    fn from(side: Side) -> u8 {
+        side as u8
+    }
+}
+
 impl Kind {
+    /// Each kind once, the strongest first.
+    pub const ALL: [Kind; 6] = [
+        Kind::Elephant,
+        Kind::Camel,
+        Kind::Horse,
+        Kind::Dog,
+        Kind::Cat,
+        Kind::Rabbit,
+    ];
+
     /// From 1 for a rabbit to 6 for an elephant.
     pub fn strength(self) -> u8
         ensures { result ≡ power self }
@@ -81,11 +110,13 @@ impl Kind {
     }
 }
 
-impl Piece {
-    /// The piece that a letter stands for.
-    pub fn from_letter(letter: char) -> Option<Piece>
-        ensures { (p : Piece) → (result ≡ Some p → letter ≡ letter_of p) × (letter ≡ letter_of p → result ≡ Some p) }
-    {
+/// The piece that a letter stands for.
+impl TryFrom<char> for Piece {
+    type Error = Refusal;
+
+    ghost try_from_gives = { LetterRead };
+
+    fn try_from(letter: char) -> Result<Piece, Refusal> {
         let (side, kind) = match letter {
             'E' => (Side::Gold, Kind::Elephant),
             'M' => (Side::Gold, Kind::Camel),
@@ -99,15 +130,18 @@ impl Piece {
             'd' => (Side::Silver, Kind::Dog),
             'c' => (Side::Silver, Kind::Cat),
             'r' => (Side::Silver, Kind::Rabbit),
-            _ => return None,
+            _ => return Err(Refusal::Letter),
         };
-        Some(Piece { side, kind })
+        Ok(Piece { side, kind })
     }
+}
 
-    pub fn letter(self) -> char
-        ensures { result ≡ letter_of self }
-    {
-        match (self.side, self.kind) {
+/// The letter of a piece.
+impl From<Piece> for char {
+    ghost from_gives = { λ piece letter. letter ≡ letter_of piece };
+
+    fn from(piece: Piece) -> char {
+        match (piece.side, piece.kind) {
             (Side::Gold, Kind::Elephant) => 'E',
             (Side::Gold, Kind::Camel) => 'M',
             (Side::Gold, Kind::Horse) => 'H',
@@ -121,5 +155,14 @@ impl Piece {
             (Side::Silver, Kind::Cat) => 'c',
             (Side::Silver, Kind::Rabbit) => 'r',
         }
+    }
+}
+
+/// The letter of a piece.
+impl fmt::Display for Piece {
+    ghost output = { λ piece. Some (letter_of piece ∷ []) };
+
+    fn fmt<W: fmt::Write>(&self, f: &mut fmt::Formatter<W>) -> fmt::Result {
+        f.write_char(char::from(*self))
     }
 }

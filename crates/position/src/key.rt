@@ -6,11 +6,11 @@ ghost use Rattle.position.specs.Words.{position_words, ranked_words, mixed};
 ghost use Rattle.keys.proofs.Words.{words_self, words_sym, words_trans};
 
 use crate::Position;
-use board::Side;
 use keys::{Key, OrderedKey, SpreadKey};
 use std::cmp::Ordering;
 
 /// Mixes the words of a position, with few multiplications.
+#[tactic(auto, unfolding(crate::specs::Words::mixed_with))]
 fn mix(words: [u64; 5]) -> u64
     ensures { result ≡ mixed words }
 {
@@ -26,11 +26,8 @@ fn mix(words: [u64; 5]) -> u64
 fn words(position: &Position) -> [u64; 5]
     ensures { result ≡ position_words position.now }
 {
+    let side = u64::from(u8::from(position.side));
     let [gold, ones, twos, fours] = position.board.words();
-    let side = match position.side {
-        Side::Gold => 0,
-        Side::Silver => 1,
-    };
     [side, gold, ones, twos, fours]
 }
 
@@ -38,9 +35,9 @@ fn words(position: &Position) -> [u64; 5]
 fn ranked(position: &Position) -> [u64; 6]
     ensures { result ≡ ranked_words position.now }
 {
-    let [side, gold, ones, twos, fours] = words(position);
-    let spread = mix([side, gold, ones, twos, fours]);
-    [spread, side, gold, ones, twos, fours]
+    let words = words(position);
+    let [side, gold, ones, twos, fours] = words;
+    [mix(words), side, gold, ones, twos, fours]
 }
 
 impl Key for Position {
@@ -52,6 +49,7 @@ impl Key for Position {
 
     ghost transitive = { λ p q r. words_trans (position_words p) (position_words q) (position_words r) };
 
+    #[tactic(auto, using(crate::proofs::Words::keys_decide))]
     fn same(&self, other: &Position) -> bool
         ensures value { result ≡ same_words (position_words self.now) (position_words other.now) }
         ensures agreement { Decides result (SameSquares self.now.board other.now.board × (self.now.side ≡ other.now.side)) }
@@ -63,6 +61,7 @@ impl Key for Position {
 impl SpreadKey for Position {
     ghost spreads = { λ p. mixed (position_words p) };
 
+    #[tactic(auto, using(keys::proofs::Words::words_is))]
     fn spread(&self) -> u64 {
         mix(words(self))
     }

@@ -1,20 +1,27 @@
 // A position: a board and the side to move.
-ghost use Rattle.std.specs.Prelude.{◌≡◌, IfOk, Decides, MatchResult};
-ghost use Rattle.board.specs.Pieces.{side_number};
+ghost use Rattle.std.specs.Prelude.{◌≡◌, ◌<◌, IfOk, Decides, MatchResult};
+ghost use Rattle.board.specs.Pieces.{side_number, full};
 ghost use Rattle.board.specs.Cells.{SameSquares};
-ghost use Rattle.board.specs.Counts.{Lawful};
+ghost use Rattle.board.specs.Counts.{count_of, Lawful};
 ghost use Rattle.board.specs.Refusals.{refusal_number, NoneHits, FirstHit};
 ghost use Rattle.board.specs.Reading.{Shows, position_checks};
 ghost use Rattle.position.specs.Equality.{same_position};
 ghost use Rattle.std.specs.Cmp.Rules.{comparing};
 ghost use Rattle.std.proofs.Common.{rules};
 
-use board::{Board, Refusal, Side};
+use board::{Board, Kind, Refusal, Side};
 
 #[derive(Clone, Copy)]
 pub struct Position {
     pub board: Board,
     pub side: Side,
+}
+
+/// Whether a side has more of some kind than the full set.
+fn exceeds_full_set(board: Board) -> bool
+    ensures { Decides result ((side : Side) × (kind : Kind) × (full kind < count_of board side kind)) }
+{
+    Side::ALL.iter().any(|side| board.exceeds_full_set(*side))
 }
 
 impl Position {
@@ -26,13 +33,9 @@ impl Position {
         if letters.len() != 64 {
             return Err(Refusal::Length);
         }
-        let Some(side) = Side::from_number(side) else {
-            return Err(Refusal::SideNumber);
-        };
-        let Some(board) = Board::from_letters(letters) else {
-            return Err(Refusal::Letter);
-        };
-        if board.exceeds_full_set(Side::Gold) || board.exceeds_full_set(Side::Silver) {
+        let side = Side::try_from(side)?;
+        let board = Board::from_letters(letters)?;
+        if exceeds_full_set(board) {
             return Err(Refusal::FullSet);
         }
         if !board.unsupported().is_empty() {
@@ -47,7 +50,7 @@ impl PartialEq for Position {
 
     ghost laws = { Prim.search (comparing, rules) };
 
-    // Positions are equal exactly if they agree in the 64 squares and the side.
+    // By hand, since a derived == could not promise what it says of the squares.
     fn eq(&self, other: &Position) -> bool
         ensures value { result ≡ same_position self.now other.now }
         ensures same { Decides result (self.now ≡ other.now) }

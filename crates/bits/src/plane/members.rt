@@ -4,6 +4,7 @@ ghost use Rattle.bits.specs.Planes.{on};
 
 use super::Plane;
 use crate::Square;
+use std::ops::{BitAnd, BitOr, Sub};
 
 impl Plane {
     /// The plane of the squares at which a word has a one.
@@ -14,6 +15,7 @@ impl Plane {
     }
 
     /// The plane with no square.
+    #[tactic(auto, using(crate::proofs::Digits::digit_of_zero))]
     pub fn empty() -> Plane
         ensures { (k : ℕ) → on result k ≡ 0 }
     {
@@ -26,12 +28,14 @@ impl Plane {
         self.word == 0
     }
 
+    #[tactic(auto, using(crate::proofs::Digits::digit_lt, crate::proofs::Digits::digit_and_one))]
     pub fn has(self, square: Square) -> bool
         ensures { on self square.number ≡ (if result then 1 else 0) }
     {
         (self.word >> square.number()) & 1 == 1
     }
 
+    #[tactic(auto, using(crate::proofs::Digits::or_of_64, crate::proofs::Digits::digit_with_here, crate::proofs::Digits::digit_with_other))]
     pub fn with(self, square: Square) -> Plane
         ensures here { on result square.number ≡ 1 }
         ensures others { (k : ℕ) → k ≢ square.number → on result k ≡ on self k }
@@ -41,6 +45,7 @@ impl Plane {
         }
     }
 
+    #[tactic(auto, using(crate::proofs::Digits::digit_without_here, crate::proofs::Digits::digit_without_other))]
     pub fn without(self, square: Square) -> Plane
         ensures here { on result square.number ≡ 0 }
         ensures others { (k : ℕ) → k ≢ square.number → on result k ≡ on self k }
@@ -62,33 +67,6 @@ impl Plane {
         }
     }
 
-    /// The squares of both planes.
-    pub fn and(self, other: Plane) -> Plane
-        ensures { (k : ℕ) → on result k ≡ min (on self k) (on other k) }
-    {
-        Plane {
-            word: self.word & other.word,
-        }
-    }
-
-    /// The squares of either plane.
-    pub fn or(self, other: Plane) -> Plane
-        ensures { (k : ℕ) → on result k ≡ max (on self k) (on other k) }
-    {
-        Plane {
-            word: self.word | other.word,
-        }
-    }
-
-    /// The squares of this plane that are not in the other.
-    pub fn minus(self, other: Plane) -> Plane
-        ensures { (k : ℕ) → on result k ≡ on self k - on other k }
-    {
-        Plane {
-            word: self.word & !other.word,
-        }
-    }
-
     /// Whether the planes share a square.
     pub fn meets(self, other: Plane) -> bool
         ensures { Decides result ((k : ℕ) × (k < 64) × (on self k ≡ 1) × (on other k ≡ 1)) }
@@ -97,6 +75,7 @@ impl Plane {
     }
 
     /// How many squares the plane has.
+    #[tactic(auto, using(crate::proofs::Digits::ones_tally))]
     pub fn count(self) -> u32
         ensures { result ≡ tally (on self) 64 }
     {
@@ -108,5 +87,47 @@ impl Plane {
         ensures { MatchOption result ((k : ℕ) → on self k ≡ 0) (λ s. (on self s.number ≡ 1) × ((k : ℕ) → k < s.number → on self k ≡ 0)) }
     {
         Square::new(self.word.trailing_zeros() as u8)
+    }
+}
+
+/// The squares of both planes.
+impl BitAnd for Plane {
+    type Output = Plane;
+
+    ghost bitand_gives = { λ p q r. (k : ℕ) → on r k ≡ min (on p k) (on q k) };
+
+    #[tactic(auto, using(crate::proofs::Digits::digit_and))]
+    fn bitand(self, other: Plane) -> Plane {
+        Plane {
+            word: self.word & other.word,
+        }
+    }
+}
+
+/// The squares of either plane.
+impl BitOr for Plane {
+    type Output = Plane;
+
+    ghost bitor_gives = { λ p q r. (k : ℕ) → on r k ≡ max (on p k) (on q k) };
+
+    #[tactic(auto, using(crate::proofs::Digits::digit_or, crate::proofs::Digits::or_of_64))]
+    fn bitor(self, other: Plane) -> Plane {
+        Plane {
+            word: self.word | other.word,
+        }
+    }
+}
+
+/// The squares of the first plane that are not in the second.
+impl Sub for Plane {
+    type Output = Plane;
+
+    ghost sub_gives = { λ p q r. (k : ℕ) → on r k ≡ on p k - on q k };
+
+    #[tactic(auto, using(crate::proofs::Digits::digit_minus))]
+    fn sub(self, other: Plane) -> Plane {
+        Plane {
+            word: self.word & !other.word,
+        }
     }
 }

@@ -30,8 +30,8 @@ impl Plane {
         ensures each { (k j : ℕ) → k < 64 → j < 64 → Next k j → on self j ≡ 1 → on result k ≡ 1 }
     {
         self.shifted(Direction::North)
-            .or(self.shifted(Direction::East))
-            .or(self.shifted(Direction::South))
-            .or(self.shifted(Direction::West))
+            | self.shifted(Direction::East)
+            | self.shifted(Direction::South)
+            | self.shifted(Direction::West)
     }
 }

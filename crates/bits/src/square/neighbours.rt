@@ -106,6 +106,7 @@ impl Square {
     }
 
     /// The squares next to this one.
+    #[tactic(auto, using(crate::proofs::Neighbours::in_table))]
     pub fn neighbours(self) -> Plane
         ensures { (k : ℕ) → k < 64 → (on result k ≡ 1 → Next self.number k) × (Next self.number k → on result k ≡ 1) }
     {

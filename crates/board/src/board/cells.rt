@@ -1,7 +1,7 @@
 // What stands on the squares of a board.
-ghost use Rattle.std.specs.Prelude.{◌≡◌, ℕ, ◌+◌, ◌*◌, ◌≤◌, ◌≢◌, if◌then◌else◌, None, Decides};
+ghost use Rattle.std.specs.Prelude.{◌≡◌, ℕ, ◌≢◌, None, Decides};
 ghost use Rattle.bits.specs.Planes.{on};
-ghost use Rattle.board.specs.Cells.{cell, decode, same_planes, SameSquares, Changed};
+ghost use Rattle.board.specs.Cells.{cell, Spells, same_planes, SameSquares, Changed};
 ghost use Rattle.std.specs.Cmp.Rules.{comparing};
 ghost use Rattle.std.proofs.Common.{rules};
 
@@ -9,26 +9,41 @@ use super::Board;
 use crate::{Kind, Piece, Side};
 use bits::{Plane, Square};
 
-/// The digits of a cell in the four planes: Gold's, and the strength's one, two and four.
-fn digits(holds: Option<Piece>) -> (bool, bool, bool, bool)
-    ensures decodes { decode (if result.0 then 1 else 0) (if result.3 then 1 else 0) (if result.2 then 1 else 0) (if result.1 then 1 else 0) ≡ holds }
-    ensures strength { (if result.1 then 1 else 0) + 2 * (if result.2 then 1 else 0) + 4 * (if result.3 then 1 else 0) ≤ 6 }
-    ensures gold { (if result.0 then 1 else 0) ≤ (if result.1 then 1 else 0) + 2 * (if result.2 then 1 else 0) + 4 * (if result.3 then 1 else 0) }
-{
-    let Some(piece) = holds else {
-        return (false, false, false, false);
-    };
-    let gold = match piece.side {
-        Side::Gold => true,
-        Side::Silver => false,
-    };
-    match piece.kind {
-        Kind::Elephant => (gold, false, true, true),
-        Kind::Camel => (gold, true, false, true),
-        Kind::Horse => (gold, false, false, true),
-        Kind::Dog => (gold, true, true, false),
-        Kind::Cat => (gold, false, true, false),
-        Kind::Rabbit => (gold, true, false, false),
+/// What the four planes have of a square: Gold's, and those of the strength's one, two and four.
+struct Digits {
+    gold: bool,
+    one: bool,
+    two: bool,
+    four: bool,
+}
+
+impl Digits {
+    /// The digits of a square that holds this.
+    fn of(holds: Option<Piece>) -> Digits
+        ensures { Spells result.gold result.one result.two result.four holds }
+    {
+        let Some(piece) = holds else {
+            return Digits {
+                gold: false,
+                one: false,
+                two: false,
+                four: false,
+            };
+        };
+        let (four, two, one) = match piece.kind {
+            Kind::Elephant => (true, true, false),
+            Kind::Camel => (true, false, true),
+            Kind::Horse => (true, false, false),
+            Kind::Dog => (false, true, true),
+            Kind::Cat => (false, true, false),
+            Kind::Rabbit => (false, false, true),
+        };
+        Digits {
+            gold: piece.side == Side::Gold,
+            one,
+            two,
+            four,
+        }
     }
 }
 
@@ -81,7 +96,12 @@ impl Board {
     pub fn put(self, square: Square, holds: Option<Piece>) -> Board
         ensures { Changed self result square.number holds }
     {
-        let (gold, one, two, four) = digits(holds);
+        let Digits {
+            gold,
+            one,
+            two,
+            four,
+        } = Digits::of(holds);
         Board {
             gold: self.gold.set(square, gold),
             ones: self.ones.set(square, one),
@@ -105,15 +125,16 @@ impl Board {
     }
 
     /// The board without what stands on some squares.
+    #[tactic(auto, using(bits::proofs::Same::on_lt))]
     pub fn without(self, squares: Plane) -> Board
         ensures gone { (s : ℕ) → on squares s ≡ 1 → cell result s ≡ None }
         ensures kept { (s : ℕ) → on squares s ≡ 0 → cell result s ≡ cell self s }
     {
         Board {
-            gold: self.gold.minus(squares),
-            ones: self.ones.minus(squares),
-            twos: self.twos.minus(squares),
-            fours: self.fours.minus(squares),
+            gold: self.gold - squares,
+            ones: self.ones - squares,
+            twos: self.twos - squares,
+            fours: self.fours - squares,
         }
     }
 }
@@ -123,7 +144,7 @@ impl PartialEq for Board {
 
     ghost laws = { Prim.search (comparing, rules) };
 
-    // Boards are equal exactly if they have the same on every square.
+    // By hand, since a derived == could not promise what it says of the squares.
     fn eq(&self, other: &Board) -> bool
         ensures value { result ≡ same_planes self.now other.now }
         ensures same { Decides result (self.now ≡ other.now) }

@@ -15,8 +15,8 @@ returns c =
     let e = c.shifted-2.result in
     let s = c.shifted-3.result in
     let w = c.shifted-4.result in
-    let all : (k : ℕ) → on c.or-3.result k ≡ max (max (max (on n k) (on e k)) (on s k)) (on w k) =
-    λ k. let x = c.or.ensures k in let y = c.or-2.ensures k in let z = c.or-3.ensures k in cc in
+    let all : (k : ℕ) → on c.bitor-3.result k ≡ max (max (max (on n k) (on e k)) (on s k)) (on w k) =
+    λ k. let x = c.bitor.ensures k in let y = c.bitor-2.ensures k in let z = c.bitor-3.ensures k in cc in
     let Found : ℕ → Type 0 = λ k. (j : ℕ) × (j < 64) × Next k j × (on p j ≡ 1) in
     let by : (d : Direction) (k : ℕ) → (j : ℕ) × (j < 64) × Toward d j k × (on p j ≡ 1) → Found k =
     λ d k f. (f.0, f.1, toward_next d f.0 k f.2, f.3) in
@@ -29,8 +29,8 @@ returns c =
           (cases_eq (on s k) 1)) (cases_eq (on e k) 1)) (cases_eq (on n k) 1);
       each = λ k j h l t o.
           let f = next_toward j k t in
-          let joined : (d : Direction) → Toward d j k → on c.or-3.result k ≡ 1 =
-          λ d. elim d as (λ d. Toward d j k → on c.or-3.result k ≡ 1) [
+          let joined : (d : Direction) → Toward d j k → on c.bitor-3.result k ≡ 1 =
+          λ d. elim d as (λ d. Toward d j k → on c.bitor-3.result k ≡ 1) [
             | North ↦ λ t. let i = c.shifted.ensures.each j k l h t o in omega (arith, all k, on_lt n k, on_lt e k, on_lt s k, on_lt w k)
             | East ↦ λ t. let i = c.shifted-2.ensures.each j k l h t o in omega (arith, all k, on_lt n k, on_lt e k, on_lt s k, on_lt w k)
             | South ↦ λ t. let i = c.shifted-3.ensures.each j k l h t o in omega (arith, all k, on_lt n k, on_lt e k, on_lt s k, on_lt w k)

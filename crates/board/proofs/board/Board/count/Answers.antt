@@ -13,10 +13,10 @@ returns c =
     let side = c.args.side in
     let kind = c.args.kind in
     c.count.ensures
-    ∙ tally_cong (on c.and.result) (λ s. of_side (cell b s) side * of_kind (cell b s) kind) 64
+    ∙ tally_cong (on c.bitand.result) (λ s. of_side (cell b s) side * of_kind (cell b s) kind) 64
     (λ s h.
     let both = both_digits (cell b s) side kind in
     let e = c.of.ensures s in
     let f = c.kind.ensures s in
-    let g = c.and.ensures s in
+    let g = c.bitand.ensures s in
     cc)

@@ -18,8 +18,8 @@ returns c =
       (λ t.
           let m = c.meets.ensures.0 t in
           let s = m.0 in
-          let foe : on foes s ≡ 1 = omega (arith, c.and.ensures s, on_lt foes s, on_lt strong s, m.2) in
-          let over : on strong s ≡ 1 = omega (arith, c.and.ensures s, on_lt foes s, on_lt strong s, m.2) in
+          let foe : on foes s ≡ 1 = omega (arith, c.bitand.ensures s, on_lt foes s, on_lt strong s, m.2) in
+          let over : on strong s ≡ 1 = omega (arith, c.bitand.ensures s, on_lt foes s, on_lt strong s, m.2) in
           let q = some_of_side (cell b s) (opponent p.side) (sym (theirs s) ∙ foe) in
           record {
             place = s;
@@ -34,5 +34,5 @@ returns c =
           let h = on_board b s f.piece f.there in
           let foe : on foes s ≡ 1 = theirs s ∙ of_side_some (cell b s) (opponent p.side) f.piece f.there f.enemy in
           let over : on strong s ≡ 1 = c.stronger.ensures s ∙ above_stronger (cell b s) f.piece p.kind f.there f.stronger in
-          c.meets.ensures.1 (s, h, omega (arith, c.and.ensures s), (c.neighbours.ensures s h).1 f.near)),
+          c.meets.ensures.1 (s, h, omega (arith, c.bitand.ensures s), (c.neighbours.ensures s h).1 f.near)),
     )
