@@ -70,21 +70,12 @@ fn to_task(task: &Task<'_>) -> Result<Outcome, Complaint>
     })
 }
 
-fn write_board<W: fmt::Write>(f: &mut fmt::Formatter<W>, word: &str, board: Board) -> fmt::Result {
-    f.write_str(word)?;
-    f.write_char(' ')?;
-    for letter in board.letters() {
-        f.write_char(char::from(letter))?;
-    }
-    Ok(())
-}
-
 impl fmt::Display for Outcome {
     fn fmt<W: fmt::Write>(&self, f: &mut fmt::Formatter<W>) -> fmt::Result {
         match *self {
-            Outcome::Start(board) => write_board(f, "start", board),
-            Outcome::Turn(board) => write_board(f, "turn", board),
-            Outcome::Half(board) => write_board(f, "half", board),
+            Outcome::Start(board) => write!(f, "start {board}"),
+            Outcome::Turn(board) => write!(f, "turn {board}"),
+            Outcome::Half(board) => write!(f, "half {board}"),
         }
     }
 }
