@@ -1,8 +1,9 @@
 // What a task is answered.
-ghost use Rattle.std.specs.Prelude.{◌≡◌, IfOk};
+ghost use Rattle.std.specs.Prelude.{◌≡◌, Some, IfOk};
 ghost use Rattle.rules.specs.Codes.{numbers};
 ghost use Rattle.turn.specs.declared.answer.Complaint.TheVariants.{NoBoard, NoStep};
 ghost use Rattle.turn.specs.Judging.{Judged, Answered};
+ghost use Rattle.turn.specs.Printing.{outcome_text, complaint_text};
 
 use crate::task::Task;
 use board::{Board, Refusal};
@@ -71,6 +72,8 @@ fn to_task(task: &Task<'_>) -> Result<Outcome, Complaint>
 }
 
 impl fmt::Display for Outcome {
+    ghost output = { λ outcome. Some (outcome_text outcome) };
+
     fn fmt<W: fmt::Write>(&self, f: &mut fmt::Formatter<W>) -> fmt::Result {
         match *self {
             Outcome::Start(board) => write!(f, "start {board}"),
@@ -81,6 +84,8 @@ impl fmt::Display for Outcome {
 }
 
 impl fmt::Display for Complaint {
+    ghost output = { λ complaint. Some (complaint_text complaint) };
+
     fn fmt<W: fmt::Write>(&self, f: &mut fmt::Formatter<W>) -> fmt::Result {
         match *self {
             Complaint::Unreadable => f.write_str("unreadable"),
