@@ -1,2 +1,3 @@
 pub mod Tasks
 pub mod Judging
+pub mod Printing

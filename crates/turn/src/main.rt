@@ -8,7 +8,6 @@ use std::io::Read;
 mod answer;
 mod task;
 
-use answer::Answer;
 use text::lines;
 
 /// So many bytes are gathered before they are written.
@@ -20,8 +19,10 @@ fn main(rt: HostRuntime) -> io::Result<()> {
     rt.stdin().read_to_end(&mut text)?;
     let mut out = String::new(heap);
     for line in lines(text.as_slice()) {
-        let answer = Answer::to_line(heap, line)?;
-        writeln!(out, "{answer}")?;
+        match answer::to_line(heap, line)? {
+            Ok(outcome) => writeln!(out, "{outcome}")?,
+            Err(complaint) => writeln!(out, "{complaint}")?,
+        }
         if out.len() >= CHUNK {
             rt.print(out.as_str())?;
             out.clear();

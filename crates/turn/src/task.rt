@@ -2,8 +2,10 @@
 ghost use Rattle.std.specs.Prelude.{ℕ, List, IfOk, MatchOption};
 ghost use Rattle.text.specs.Numerals.{Numerals};
 ghost use Rattle.text.specs.Fields.{to_come};
+ghost use Rattle.rules.specs.Codes.{numbers};
 ghost use Rattle.turn.specs.Tasks.{ReadAs};
 
+use rules::StepCode;
 use std::alloc::{AllocError, Global};
 use text::fields::fields;
 use text::{Pieces, number};
@@ -12,21 +14,21 @@ use text::{Pieces, number};
 pub struct Task<'a> {
     pub letters: &'a [u8],
     pub side: u8,
-    pub codes: Vec<u8>,
+    pub codes: Vec<StepCode>,
 }
 
-/// The numbers that the fields spell, if each spells one.
-fn numbers(heap: Global, fields: Pieces<'_>) -> Result<Option<Vec<u8>>, AllocError>
-    ensures { IfOk result (λ o. MatchOption o ((ns : List ℕ) → Numerals (to_come fields.entry) ns → ⊥) (λ v. Numerals (to_come fields.entry) v.items)) }
+/// The codes whose numbers the fields spell, if each spells one.
+fn codes(heap: Global, fields: Pieces<'_>) -> Result<Option<Vec<StepCode>>, AllocError>
+    ensures { IfOk result (λ o. MatchOption o ((ns : List ℕ) → Numerals (to_come fields.entry) ns → ⊥) (λ v. Numerals (to_come fields.entry) (numbers v.items))) }
 {
-    let mut numbers = Vec::new(heap);
+    let mut codes = Vec::new(heap);
     for field in fields {
         let Some(number) = number(field) else {
             return Ok(None);
         };
-        numbers.push(number)?;
+        codes.push(StepCode::from(number))?;
     }
-    Ok(Some(numbers))
+    Ok(Some(codes))
 }
 
 impl<'a> Task<'a> {
@@ -41,7 +43,7 @@ impl<'a> Task<'a> {
         let Some(side) = number(side) else {
             return Ok(None);
         };
-        let Some(codes) = numbers(heap, fields)? else {
+        let Some(codes) = codes(heap, fields)? else {
             return Ok(None);
         };
         Ok(Some(Task {
