@@ -4,7 +4,7 @@
 ghost use Rattle.std.specs.Prelude.{◌≡◌, ℕ, Bool, true};
 ghost use Rattle.std.specs.declared.cmp.Ordering.TheVariants.{Less, Equal};
 ghost use Rattle.std.specs.declared.cmp.Ordering.{Ordering};
-ghost use Rattle.keys.specs.Orders.{turned};
+ghost use Rattle.std.specs.Ordering.{ordering_reverse};
 
 use std::cmp::Ordering;
 
@@ -39,6 +39,6 @@ pub trait OrderedKey: Key {
         ensures tie { result ≡ Equal → Self.Key.equals self.now other.now ≡ true }
         ensures tied { Self.Key.equals self.now other.now ≡ true → result ≡ Equal }
         ensures alike { (y : Self) → Self.Key.equals self.now y ≡ true → orders y other.now ≡ result }
-        ensures turns { orders other.now self.now ≡ turned result }
+        ensures turns { orders other.now self.now ≡ ordering_reverse result }
         ensures climbs { (z : Self) → result ≡ Less → orders other.now z ≡ Less → orders self.now z ≡ Less };
 }

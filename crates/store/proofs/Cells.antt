@@ -1,12 +1,13 @@
 -- What the cells of a store say of keys, and what a write to one of them changes.
 use Rattle.std.proofs.Common.{◌≡◌, ℕ, ◌+◌, ◌<◌, ◌≤◌, Bool, true, false, cond, ◌⊎◌, List, [], ◌∷◌, length, Some, None, get_or, set, sum_by, count_by, sym, refl, ap, ◌∙◌, subst, inl, inr, ⊎_elim, arith}
+use Rattle.std.specs.Cmp.{both_ways as same_answer}
 use Rattle.std.specs.List.{AllByRecursion as All}
 use Rattle.std.proofs.lemmas.List.{get_or-set_same, get_or-set_other, length-set, get_or_past}
 use Rattle.std.proofs.lemmas.List.Sums.{sum_by-set, sum_by-cons, count_by-le-length}
 use Rattle.std.proofs.ByRecursion.{sum_by_le, All-from_get_or}
-use Rattle.std.proofs.lemmas.Bool.{cases_lt, cases_eq, cases_Bool, cond-true, cond-false, both_ways}
+use Rattle.std.proofs.lemmas.Bool.{cases_lt, cases_eq, cond-true, cond-false, both_ways, false_from_ne_true}
 use Rattle.store.specs.Views.{View, Kept, Tells, Raised, Empty}
-use Rattle.store.specs.Cells.{Cell, is_free, is_held, holds, count_of, share, at, held_in, seen, Holding, Meets}
+use Rattle.store.specs.Cells.{Cell, is_held, holds, count_of, share, at, held_in, seen, Holding, Meets}
 
 -- a key with its count
 abbrev pub occupied : {K : Type 0} → K → ℕ → Cell K
@@ -21,23 +22,10 @@ count_all p [] a = refl
 count_all p (x ∷ xs) (e, a) =
     omega (arith, sum_by-cons (λ y. cond (p y) 1 0) x xs, cond-true {A = ℕ} (p x) 1 0 e, count_all p xs a)
 
--- a test that is never true is false
-pub never : (b : Bool) → (b ≡ true → ⊥) → b ≡ false
-never true refute = absurd (refute refl)
-never false refute = refl
-
 pub kept_same : {K : Type 0} (s : View K) → Kept s s
 kept_same s = record { capacity = refl; held = refl; count = λ q. refl }
 
 module _ {K : Type 0} where
-  pub free_held : (s : Cell K) → is_free s ≡ true → is_held s ≡ false
-  free_held None h = refl
-  free_held (Some e) h = absurd (both_ways false refl h)
-
-  pub full_held : (s : Cell K) → is_free s ≡ false → is_held s ≡ true
-  full_held None h = absurd (both_ways true h refl)
-  full_held (Some e) h = refl
-
   pub in_range : (cs : List (Cell K)) (i : ℕ) → is_held (at cs i) ≡ true → i < length cs
   in_range cs i h =
       ⊎_elim
@@ -91,7 +79,7 @@ module _ {K : Type 0} (eq : K → K → Bool) where
   share_off q s h = cond-false (holds eq q s) (count_of s) 0 h
 
   unheld : (q : K) (s : Cell K) → is_held s ≡ false → holds eq q s ≡ false
-  unheld q s f = never (holds eq q s) (λ t. both_ways _ f (holds_held q s t))
+  unheld q s f = false_from_ne_true (holds eq q s) (λ t. both_ways _ f (holds_held q s t))
 
   tally_set : (cs : List (Cell K)) (q : K) (i : ℕ) (s : Cell K) → i < length cs
       → sum_by (share eq q) (set cs i s) + share eq q (at cs i) ≡ sum_by (share eq q) cs + share eq q s
@@ -99,7 +87,7 @@ module _ {K : Type 0} (eq : K → K → Bool) where
 
   -- a key that no cell holds has the count 0
   pub absent : (cs : List (Cell K)) (q : K) → ((i : ℕ) → holds eq q (at cs i) ≡ true → ⊥) → sum_by (share eq q) cs ≡ 0
-  absent cs q none = sum_none (share eq q) cs None (λ i l. share_off q (at cs i) (never _ (none i)))
+  absent cs q none = sum_none (share eq q) cs None (λ i l. share_off q (at cs i) (false_from_ne_true _ (none i)))
 
   -- a store with no key
   pub cleared : (cs : List (Cell K)) (n : ℕ) → length cs ≡ n → ((i : ℕ) → is_held (at cs i) ≡ false) → Holding eq cs 0 × Empty n (seen eq cs)
@@ -135,18 +123,10 @@ module _ {K : Type 0} (eq : K → K → Bool) where
 
     -- equal keys equal the same keys
     pub eq_like : (k x q : K) → eq x k ≡ true → eq x q ≡ eq k q
-    eq_like k x q e =
-        ⊎_elim
-        (λ (t : eq x q ≡ true). t ∙ sym (trans' k x q (sym' x k e) t))
-        (λ (f : eq x q ≡ false). f ∙ sym (never _ (λ t. both_ways _ f (trans' x k q e t))))
-        (cases_Bool (eq x q))
+    eq_like k x q e = same_answer (eq x q) (eq k q) (trans' k x q (sym' x k e)) (trans' x k q e)
 
     holds_both : (k q : K) (s : Cell K) → eq k q ≡ true → holds eq k s ≡ holds eq q s
-    holds_both k q s e =
-        ⊎_elim
-        (λ (t : holds eq k s ≡ true). t ∙ sym (holds_like q k s (sym' k q e) t))
-        (λ (f : holds eq k s ≡ false). f ∙ sym (never _ (λ t. both_ways _ f (holds_like k q s e t))))
-        (cases_Bool (holds eq k s))
+    holds_both k q s e = same_answer (holds eq k s) (holds eq q s) (holds_like q k s (sym' k q e)) (holds_like k q s e)
 
     -- equal keys have equal counts
     count_like : (cs : List (Cell K)) (k q : K) → eq k q ≡ true → sum_by (share eq k) cs ≡ sum_by (share eq q) cs

@@ -1,7 +1,7 @@
 -- Probes of a table.
 use Rattle.std.proofs.Common.{◌≡◌, ℕ, ◌+◌, ◌%◌, ◌^◌, ◌<◌, ◌≤◌, Bool, true, false, eqb, List, length, Some, None, Option, get_or, set, sum_by, sym, refl, ap, ◌∙◌, subst, ⊎_elim, mod-lt, arith, below_more}
 use Rattle.std.proofs.lemmas.List.{get_or-set_same, get_or-set_other, get_or_past, get_or-map, length-map, length-set, map-set}
-use Rattle.std.proofs.lemmas.Bool.{cases_lt, cases_eq, cases_order, cases_Bool, cond-true, cond-false, both_ways, eq-eqb, eqb-true, ne_eqb}
+use Rattle.std.proofs.lemmas.Bool.{cases_lt, cases_eq, cases_order, cases_Bool, cond-true, cond-false, both_ways, eq-eqb, eqb-true, ne_eqb, not-true, not-false}
 use Rattle.std.proofs.lemmas.Option.{none-some, same_Some}
 use Rattle.store.specs.Views.{Raised, Empty, counted}
 use Rattle.store.specs.Cells.{Cell, is_free, is_held, holds, share, at, seen, Meets}
@@ -11,7 +11,7 @@ use Rattle.store.specs.declared.store.Found.TheVariants.{At, Open, Nowhere}
 use Rattle.store.specs.declared.store.Entry.{Entry}
 use Rattle.store.specs.declared.table.Held.{Held}
 use Rattle.store.proofs.Ring.{place_once, place_back}
-use Rattle.store.proofs.Cells.{occupied, free_held, full_held, in_range, after, before, same_by, held_room, holds_held, absent, met_count, cleared, inserted, inserted_raised, bumped, bumped_raised}
+use Rattle.store.proofs.Cells.{occupied, in_range, after, before, same_by, held_room, holds_held, absent, met_count, cleared, inserted, inserted_raised, bumped, bumped_raised}
 
 module _ {K : Type 0} where
   pub cell_now : (g : ℕ) (s : Held K) → s.generation ≡ g → cell g (Some s) ≡ Some s.entry
@@ -106,7 +106,7 @@ module _ {K : Type 0} (eq : K → K → Bool) where
         let fd : is_free (at cs (place n (spread q % n) o.steps)) ≡ true = subst (λ m. is_free (at cs m) ≡ true) o.there o.ready in
         ⊎_elim
         (λ (e : w.0 ≡ o.steps).
-        both_ways _ (free_held (at cs (place n (spread q % n) o.steps)) fd)
+        both_ways _ (not-true (is_held (at cs (place n (spread q % n) o.steps))) fd)
         (holds_held eq q _ (subst (λ m. holds eq q (at cs (place n (spread q % n) m)) ≡ true) e tw)))
         (⊎_elim
         (λ (lt : w.0 < o.steps). both_ways _ (o.passed w.0 lt).1 tw)
@@ -120,7 +120,7 @@ module _ {K : Type 0} (eq : K → K → Bool) where
 
     pub no_room : Passed eq n cs q (spread q % n) n → (j : ℕ) → j < length cs → is_held (at cs j) ≡ true
     no_room all j l =
-        full_held (at cs j) (gone_round n cs q (spread q % n) (mod-lt (spread q) (omega arith)) all j (omega arith)).0
+        not-false (is_held (at cs j)) (gone_round n cs q (spread q % n) (mod-lt (spread q) (omega arith)) all j (omega arith)).0
 
     -- a search finds the count of the key
     pub found_count : (r : Found ℕ) → Finds eq spread (length cs) cs q r → sum_by (share eq q) cs ≡ counted r
@@ -192,7 +192,7 @@ module _ {K : Type 0} (eq : K → K → Bool) (spread : K → ℕ) (sym' : (x y 
   pub added : length xs < 2 ^ 64 → Opens eq spread (length cs) cs k i → After ((h + 1) % 2 ^ 64) (record { key = k; count = 1 })
   added small o =
       let ok = inv.1 in
-      let off : is_held (at cs i) ≡ false = free_held (at cs i) o.ready in
+      let off : is_held (at cs i) ≡ false = not-true (is_held (at cs i)) o.ready in
       let none : (j : ℕ) → holds eq k (at cs j) ≡ true → ⊥ = not_there eq spread cs h ok k i o in
       let fits : h + 1 ≡ (h + 1) % 2 ^ 64 = omega (arith, held_room cs i k o.inside off, ok.holding.number, length-map xs (cell g)) in
       written (record { key = k; count = 1 }) ((h + 1) % 2 ^ 64) o.inside

@@ -1,7 +1,7 @@
 -- Walks in a tree, and what an addition does to them.
 use Rattle.std.proofs.Common.{◌≡◌, ℕ, zero, suc, ◌+◌, ◌-◌, ◌<◌, ◌≤◌, Bool, true, false, cond, ◌⊎◌, List, length, get_or, set, sum_by, position, drop, ltb, not, Some, None, Option, Ordering, Less, Equal, Greater, sym, refl, ap, ◌∙◌, subst, inl, inr, ⊎_elim, add-zero, add-suc, add-one, arith, below_more}
 use Rattle.std.proofs.lemmas.List.{get_or_past, get_or-map, get_or-drop, drop-map, length-drop, length-map, map-set}
-use Rattle.std.proofs.lemmas.Bool.{cases_lt, cases_Bool, cond-true, cond-false, both_ways, lt-ltb, le-ltb}
+use Rattle.std.proofs.lemmas.Bool.{cases_lt, cases_Bool, cond-true, cond-false, both_ways, false_from_ne_true, lt-ltb, le-ltb}
 use Rattle.std.proofs.lemmas.List.Sums.{prefix_len_passes, prefix_len_stops}
 use Rattle.std.specs.List.{prefix_len}
 use Rattle.store.specs.Views.{Empty, counted}
@@ -11,7 +11,7 @@ use Rattle.store.specs.declared.store.Found.{Found}
 use Rattle.store.specs.declared.store.Found.TheVariants.{At, Open, Nowhere}
 use Rattle.store.specs.declared.tree.Node.{Node}
 use Rattle.store.specs.declared.tree.Spot.{Spot}
-use Rattle.store.proofs.Cells.{occupied, never, in_range, after, holds_held, absent, met_count, at_most, cleared}
+use Rattle.store.proofs.Cells.{occupied, in_range, after, holds_held, absent, met_count, at_most, cleared}
 
 not_equal : (s : Bool) → way s ≡ Equal → ⊥
 not_equal true e = let z : ◌≡◌ {A = ℕ} 0 1 = cc in omega arith
@@ -111,7 +111,7 @@ module _ {K : Type 0} (eq : K → K → Bool) (ord : K → K → Ordering) (xs :
   turns_by sym' q i k c b is alike tied =
       record {
         goes = λ y e. subst (λ s. Goes ord y s (way b)) (sym is) (alike y e);
-        other = ap (holds eq q) is ∙ never (eq k q) (λ t. not_equal b (tied (sym' k q t)));
+        other = ap (holds eq q) is ∙ false_from_ne_true (eq k q) (λ t. not_equal b (tied (sym' k q t)));
       }
 
   module _ (refl' : (x : K) → eq x x ≡ true) (root : ℕ) (q : K) where

@@ -10,11 +10,12 @@ use std::cmp::Ordering;
 use std::marker::Model;
 
 // A node of a tree: a key with its count, if any, and the nodes below it, the lesser keys left and the greater right.
+// The links come first, since a walk reads them and the first words of a key from one line of the cache.
 #[derive(Drop)]
 pub struct Node<K> {
-    pub entry: Option<Entry<K>>,
     pub left: Option<usize>,
     pub right: Option<usize>,
+    pub entry: Option<Entry<K>>,
 }
 
 // A node with no key. A derived `Default` would ask for a default key.
