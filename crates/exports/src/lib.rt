@@ -3,7 +3,7 @@
 
 use lines::Line;
 use std::alloc::Global;
-use store::{Store, Table, Tree, nodes, slots};
+use store::{Node, Slot, Store, Table, Tree, nodes};
 
 /// Adds each key of 64 bytes, then counts each, and answers the sum of the counts.
 fn add_and_count<S: Store<Line>>(store: &mut S, keys: &[u8]) -> u64 {
@@ -17,14 +17,14 @@ fn add_and_count<S: Store<Line>>(store: &mut S, keys: &[u8]) -> u64 {
 
 #[unsafe(no_mangle)]
 pub extern "C" fn table_of_lines(heap: Global, keys: &[u8], capacity: usize) -> u64 {
-    slots::<Line>(heap, capacity).map_or(0, |mut nodes| {
+    nodes::<Slot<Line>>(heap, capacity).map_or(0, |mut nodes| {
         add_and_count(&mut Table::new(nodes.as_mut_slice()), keys)
     })
 }
 
 #[unsafe(no_mangle)]
 pub extern "C" fn tree_of_lines(heap: Global, keys: &[u8], capacity: usize) -> u64 {
-    nodes::<Line>(heap, capacity).map_or(0, |mut nodes| {
+    nodes::<Node<Line>>(heap, capacity).map_or(0, |mut nodes| {
         add_and_count(&mut Tree::new(nodes.as_mut_slice()), keys)
     })
 }

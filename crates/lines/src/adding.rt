@@ -10,7 +10,7 @@ use text::lines;
 
 /// Adds a line to the store, and answers the count that its key then has.
 pub fn add_line<S: Store<Line>>(store: &mut S, line: &[u8]) -> Result<u8, Refused>
-    ensures { S.Store.valid store.old → S.Store.valid store.new × TalliedAs (S.Store.view store.old) (S.Store.view store.new) line.now result }
+    ensures { TalliedAs (S.Store.view store.old) (S.Store.view store.new) line.now result }
 {
     let key = Line::from(line);
     store.add(key)?;

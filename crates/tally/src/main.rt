@@ -3,10 +3,11 @@
 
 use anyhow::{Result, anyhow, bail, ensure};
 use lines::{Line, tally};
+use std::alloc::Global;
 use std::env;
 use std::io::Read;
 use std::str::FromStr;
-use store::{Store, Table, Tree, nodes, slots};
+use store::{Store, Table, Tree, nodes};
 
 const USAGE: &str =
     "usage: tally MAKE CAPACITY .., where a MAKE is table or tree and a CAPACITY a number";
@@ -64,6 +65,11 @@ fn choices(rt: &HostRuntime) -> Result<Vec<Choice>> {
         .try_collect(heap)
 }
 
+/// So many nodes with no key.
+fn free<N: Default + Drop>(heap: Global, count: usize) -> Result<Vec<N>> {
+    nodes(heap, count).map_err(|_| anyhow!(NO_MEMORY))
+}
+
 /// Writes what came of each line of the text, and how many keys are then held.
 fn write_tally<S: Store<Line>>(rt: &HostRuntime, store: &mut S, text: &[u8]) -> Result<()> {
     let mut out = String::new(rt.alloc());
@@ -78,20 +84,19 @@ fn run(rt: &HostRuntime) -> Result<()> {
     let choices = choices(rt)?;
     let mut text = Vec::new(heap);
     rt.stdin().read_to_end(&mut text)?;
-    for choice in &choices {
-        match choice.make {
-            Make::Table => {
-                let mut nodes = slots::<Line>(heap, choice.capacity).map_err(|_| anyhow!(
-                    NO_MEMORY
-                ))?;
-                write_tally(rt, &mut Table::new(nodes.as_mut_slice()), text.as_slice())?;
-            }
-            Make::Tree => {
-                let mut nodes = nodes::<Line>(heap, choice.capacity).map_err(|_| anyhow!(
-                    NO_MEMORY
-                ))?;
-                write_tally(rt, &mut Tree::new(nodes.as_mut_slice()), text.as_slice())?;
-            }
+    let text = text.as_slice();
+    for &Choice { make, capacity } in &choices {
+        match make {
+            Make::Table => write_tally(
+                rt,
+                &mut Table::new(free(heap, capacity)?.as_mut_slice()),
+                text,
+            )?,
+            Make::Tree => write_tally(
+                rt,
+                &mut Tree::new(free(heap, capacity)?.as_mut_slice()),
+                text,
+            )?,
         }
     }
     Ok(())

@@ -3,4 +3,4 @@ use Rattle.lines.proofs.adding.tally.Given as goal
 
 abbrev pub invariant-loop-line : goal.invariant-loop-line
 invariant-loop-line g l =
-    g.S.Store.valid l.store × (l.held ≡ (g.S.Store.view l.store).held) × ((g.S.Store.view l.store).capacity ≡ l.room)
+    (l.held ≡ (g.S.Store.view l.store).held) × ((g.S.Store.view l.store).capacity ≡ l.room)
