@@ -90,7 +90,7 @@ impl<K: OrderedKey> Tree<'_, K> {
     {
         let mut link = self.root;
         let mut spot = Spot::Root;
-        for d in 0..self.nodes.len() {
+        for _ in 0..self.nodes.len() {
             let Some(i) = link else {
                 return Found::Open(spot);
             };
