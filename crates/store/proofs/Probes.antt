@@ -1,5 +1,5 @@
 -- Probes of a table.
-use Rattle.std.proofs.Common.{◌≡◌, ℕ, zero, suc, ◌+◌, ◌%◌, ◌^◌, ◌<◌, ◌≤◌, Bool, true, false, eqb, List, [], ◌∷◌, length, Some, None, Option, get_or, set, sum_by, sym, refl, ap, ◌∙◌, subst, ⊎_elim, mod-lt, arith, below_more}
+use Rattle.std.proofs.Common.{◌≡◌, ℕ, zero, suc, ◌+◌, ◌%◌, ◌<◌, ◌≤◌, Bool, true, false, eqb, List, [], ◌∷◌, length, Some, None, Option, get_or, set, sum_by, sym, refl, ap, ◌∙◌, subst, ⊎_elim, mod-lt, arith, below_more}
 use Rattle.std.proofs.lemmas.List.{get_or-set_same, get_or-set_other, get_or_past, get_or-map, length-map, length-set, map-set}
 use Rattle.std.proofs.lemmas.Bool.{cases_lt, cases_eq, cases_order, cases_Bool, cond-true, cond-false, both_ways, eq-eqb, eqb-true, ne_eqb, not-true, not-false}
 use Rattle.std.proofs.lemmas.Option.{none-some, same_Some}
@@ -195,20 +195,22 @@ module _ {K : Type 0} (eq : K → K → Bool) (spread : K → ℕ) (sym' : (x y 
   reached : (e : Entry K) → Reach eq spread (length cs) (set cs i (Some e)) → Reach eq spread (length (set cs i (Some e))) (set cs i (Some e))
   reached e = subst (λ n. Reach eq spread n (set cs i (Some e))) (sym (length-set cs i (Some e)))
 
-  pub added : length xs < 2 ^ 64 → Opens eq spread (length cs) cs k i → After ((h + 1) % 2 ^ 64) (record { key = k; count = 1 })
-  added small o =
-      let ok = inv.1 in
-      let off : is_held (at cs i) ≡ false = not-true (is_held (at cs i)) o.ready in
-      let none : (j : ℕ) → holds eq k (at cs j) ≡ true → ⊥ = not_there eq spread cs h ok k i o in
-      let fits : h + 1 ≡ (h + 1) % 2 ^ 64 = omega (arith, held_room cs i k o.inside off, ok.holding.number, length-map xs (cell g)) in
-      written (record { key = k; count = 1 }) ((h + 1) % 2 ^ 64) o.inside
-      (subst (λ h'. Sound eq spread (set cs i (occupied k 1)) h') fits (
-      record {
-        holding = inserted eq sym' trans' cs h ok.holding i o.inside k off none;
-        reach = reached (record { key = k; count = 1 }) (reach_new eq spread cs h ok k i o);
-      }
-      ))
-      (inserted_raised eq sym' trans' cs h ok.holding i o.inside k off none)
+  module _ (o : Opens eq spread (length cs) cs k i) where
+    off : is_held (at cs i) ≡ false
+    off = not-true (is_held (at cs i)) o.ready
+
+    pub room : h < length xs
+    room = omega (arith, held_room cs i k o.inside off, inv.1.holding.number, length-map xs (cell g))
+
+    pub added : After (h + 1) (record { key = k; count = 1 })
+    added =
+        let none : (j : ℕ) → holds eq k (at cs j) ≡ true → ⊥ = not_there eq spread cs h inv.1 k i o in
+        written (record { key = k; count = 1 }) (h + 1) o.inside
+        (record {
+          holding = inserted eq sym' trans' cs h inv.1.holding i o.inside k off none;
+          reach = reached (record { key = k; count = 1 }) (reach_new eq spread cs h inv.1 k i o);
+        })
+        (inserted_raised eq sym' trans' cs h inv.1.holding i o.inside k off none)
 
   pub raised : (c : ℕ) (m : Meets eq (length cs) cs k i c) → c < 255 → After h (record { key = m.found; count = c + 1 })
   raised c m lt =

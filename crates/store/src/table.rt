@@ -110,8 +110,7 @@ impl<'a, K: SpreadKey + Drop> Store<K> for Table<'a, K> {
                     entry: Entry { key, count: 1 },
                     generation: self.generation,
                 });
-                // Never wraps: fewer keys are held than there are nodes.
-                self.held = self.held.wrapping_add(1);
+                self.held += 1;
                 Ok(())
             }
             Found::Nowhere => Err(Refused::Full),
