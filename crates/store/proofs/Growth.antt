@@ -1,5 +1,5 @@
 -- What an addition does to a tree.
-use Rattle.std.proofs.Common.{◌≡◌, ℕ, zero, suc, ◌+◌, ◌%◌, ◌^◌, ◌<◌, ◌≤◌, Bool, true, false, cond, eqb, ◌⊎◌, List, length, get_or, set, Some, None, Option, Ordering, Equal, sym, refl, ap, ◌∙◌, subst, inl, inr, ⊎_elim, arith}
+use Rattle.std.proofs.Common.{◌≡◌, ℕ, zero, suc, ◌+◌, ◌<◌, ◌≤◌, Bool, true, false, cond, eqb, ◌⊎◌, List, length, get_or, set, Some, None, Option, Ordering, Equal, sym, refl, ap, ◌∙◌, subst, inl, inr, ⊎_elim, arith}
 use Rattle.std.proofs.lemmas.List.{get_or_default, get_or-set_same, get_or-set_other, get_or-map, length-map, length-set, map-set, set-get_or}
 use Rattle.std.proofs.lemmas.Bool.{cases_eq, both_ways, cond-true, cond-false, eq-eqb, ne_eqb}
 use Rattle.std.proofs.lemmas.Option.{none-some, same_Some}
@@ -137,14 +137,14 @@ module _ {K : Type 0} (eq : K → K → Bool) (ord : K → K → Ordering) (refl
               (was (λ c. holds eq q c ≡ true) j t);
         }
 
-    grown_raised : length xs < 2 ^ 64 → After k ys start ((h + 1) % 2 ^ 64)
-    grown_raised small =
-        let fits : h + 1 ≡ (h + 1) % 2 ^ 64 = omega (arith, held_room (cells xs) i k il f.free, ok.holding.number, long) in
-        let seen-raised : Raised eq (seen eq (cells xs)) (seen eq (cells ys)) k =
-        subst (λ cs. Raised eq (seen eq (cells xs)) (seen eq cs) k) (sym f.cell) (inserted_raised eq sym' trans' (cells xs) h ok.holding i il k f.free none) in
-        subst (λ h'. After k ys start h') fits (grown, same_long, seen-raised)
+    grown_raised : After k ys start (h + 1)
+    grown_raised =
+        (grown, same_long, subst (λ cs. Raised eq (seen eq (cells xs)) (seen eq cs) k) (sym f.cell) (inserted_raised eq sym' trans' (cells xs) h ok.holding i il k f.free none))
 
-  module _ (k : K) (i : ℕ) (inside : i < length xs) (free : taken xs i ≡ false) (small : length xs < 2 ^ 64) where
+  module _ (k : K) (i : ℕ) (inside : i < length xs) (free : taken xs i ≡ false) where
+    pub room : h < length xs
+    room = omega (arith, held_room (cells xs) i k (omega (arith, inside, long)) free, ok.holding.number, long)
+
     abbrev new : Node K
     new = record { entry = occupied k 1; left = None; right = None }
 
@@ -158,7 +158,7 @@ module _ {K : Type 0} (eq : K → K → Bool) (ord : K → K → Ordering) (refl
     other_node : (a : ℕ) → taken xs a ≡ true → get_or base a blank ≡ get_or xs a blank
     other_node a t = get_or-set_other xs i a new blank (λ e. both_ways _ free (subst (λ b. taken xs b ≡ true) e t))
 
-    pub add_root : Ends eq ord xs root k Root → After k base (follow base (Some i)) ((h + 1) % 2 ^ 64)
+    pub add_root : Ends eq ord xs root k Root → After k base (follow base (Some i)) (h + 1)
     add_root end =
         let nowhere : taken xs root ≡ false = subst (λ e. taken xs (walk ord xs root k e) ≡ false) end.comes end.nothing in
         let same : length base ≡ length xs = length-set xs i new in
@@ -172,7 +172,7 @@ module _ {K : Type 0} (eq : K → K → Bool) (ord : K → K → Ordering) (refl
           begin = inr (refl, nowhere);
         } in
         grown_raised base i i k f end.steps end.within (ended eq ord xs refl' root k h ok end.steps end.nothing end.passed)
-        (λ y l. ap (walk ord base i y) end.comes) small
+        (λ y l. ap (walk ord base i y) end.comes)
 
     -- the node at p gets a link to the new one
     module _ (d p : ℕ) (b : Bool) (u : Node K) (within : d < length xs) (nothing : taken xs (walk ord xs root k d) ≡ false) (passed : Passes eq ord xs root k d)
@@ -230,7 +230,7 @@ module _ {K : Type 0} (eq : K → K → Bool) (ord : K → K → Ordering) (refl
             begin = inl (follow_like xs ys r as_long);
           }
 
-      pub add_under : After k ys (follow ys r) ((h + 1) % 2 ^ 64)
+      pub add_under : After k ys (follow ys r) (h + 1)
       add_under =
           grown_raised ys (follow ys r) i k frame d within (ended eq ord xs refl' root k h ok d nothing passed)
           (λ y l.
@@ -239,7 +239,6 @@ module _ {K : Type 0} (eq : K → K → Bool) (ord : K → K → Ordering) (refl
           ∙ ap (next ord ys y) (walk_same ord xs ys root (follow ys r) i k frame y un.before (subst (λ a. taken xs a ≡ true) (sym at_p) p_taken) ∙ at_p)
           ∙ next_way ord y ys p b (subst (λ s. Goes ord y s (way b)) (sym (same_cell ord xs ys root (follow ys r) i k frame p p_taken)) (un.turns.goes y l))
           ∙ to_new)
-          small
 
     -- what stands at p once the new node is written
     still : (p : ℕ) (w : Node K) → p < length xs → taken xs p ≡ true → get_or base p w ≡ get_or xs p blank
@@ -250,7 +249,7 @@ module _ {K : Type 0} (eq : K → K → Bool) (ord : K → K → Ordering) (refl
 
     pub add_left : (p : ℕ) (w : Node K) → Ends eq ord xs root k (Left p)
         → After k (set base p (record { entry = (get_or base p w).entry; left = Some i; right = (get_or base p w).right }))
-        (follow (set base p (record { entry = (get_or base p w).entry; left = Some i; right = (get_or base p w).right })) r) ((h + 1) % 2 ^ 64)
+        (follow (set base p (record { entry = (get_or base p w).entry; left = Some i; right = (get_or base p w).right })) r) (h + 1)
     add_left p w end =
         let un : Under eq ord xs root k end.steps p true = end.comes in
         let t : taken xs p ≡ true = goes_held ord k (at (cells xs) p) (way true) (un.turns.goes k (refl' k)) in
@@ -261,7 +260,7 @@ module _ {K : Type 0} (eq : K → K → Bool) (ord : K → K → Ordering) (refl
 
     pub add_right : (p : ℕ) (w : Node K) → Ends eq ord xs root k (Right p)
         → After k (set base p (record { entry = (get_or base p w).entry; left = (get_or base p w).left; right = Some i }))
-        (follow (set base p (record { entry = (get_or base p w).entry; left = (get_or base p w).left; right = Some i })) r) ((h + 1) % 2 ^ 64)
+        (follow (set base p (record { entry = (get_or base p w).entry; left = (get_or base p w).left; right = Some i })) r) (h + 1)
     add_right p w end =
         let un : Under eq ord xs root k end.steps p false = end.comes in
         let t : taken xs p ≡ true = goes_held ord k (at (cells xs) p) (way false) (un.turns.goes k (refl' k)) in

@@ -1,8 +1,9 @@
 -- Probes of a table.
-use Rattle.std.proofs.Common.{◌≡◌, ℕ, ◌+◌, ◌%◌, ◌^◌, ◌<◌, ◌≤◌, Bool, true, false, eqb, List, length, Some, None, Option, get_or, set, sum_by, sym, refl, ap, ◌∙◌, subst, ⊎_elim, mod-lt, arith, below_more}
+use Rattle.std.proofs.Common.{◌≡◌, ℕ, zero, suc, ◌+◌, ◌%◌, ◌<◌, ◌≤◌, Bool, true, false, eqb, List, [], ◌∷◌, length, Some, None, Option, get_or, set, sum_by, sym, refl, ap, ◌∙◌, subst, ⊎_elim, mod-lt, arith, below_more}
 use Rattle.std.proofs.lemmas.List.{get_or-set_same, get_or-set_other, get_or_past, get_or-map, length-map, length-set, map-set}
 use Rattle.std.proofs.lemmas.Bool.{cases_lt, cases_eq, cases_order, cases_Bool, cond-true, cond-false, both_ways, eq-eqb, eqb-true, ne_eqb, not-true, not-false}
 use Rattle.std.proofs.lemmas.Option.{none-some, same_Some}
+use Rattle.std.specs.List.{FoldsTo}
 use Rattle.store.specs.Views.{Raised, Empty, counted}
 use Rattle.store.specs.Cells.{Cell, is_free, is_held, holds, share, at, seen, Meets}
 use Rattle.store.specs.Probes.{cell, cells, mark_of, Marked, place, Reach, Sound, Passed, Opens, Finds}
@@ -12,6 +13,13 @@ use Rattle.store.specs.declared.store.Entry.{Entry}
 use Rattle.store.specs.declared.table.Held.{Held}
 use Rattle.store.proofs.Ring.{place_once, place_back}
 use Rattle.store.proofs.Cells.{occupied, in_range, after, before, same_by, held_room, holds_held, absent, met_count, cleared, inserted, inserted_raised, bumped, bumped_raised}
+
+-- where each call gave a, the elements that they filled are a
+pub filled : {P A : Type 0} (R : P → A → P → Type 0) (a : A) → ((p q : P) (x : A) → R p x q → x ≡ a) → (p q : P) (xs : List A) → FoldsTo R p xs q
+    → (d : A) (i : ℕ) → i < length xs → get_or xs i d ≡ a
+filled R a each p q [] f d i l = absurd (omega arith)
+filled R a each p q (x ∷ xs) (m, r, f) d zero l = each p m x r
+filled R a each p q (x ∷ xs) (m, r, f) d (suc i) l = filled R a each m q xs f d i (omega arith)
 
 module _ {K : Type 0} where
   pub cell_now : (g : ℕ) (s : Held K) → s.generation ≡ g → cell g (Some s) ≡ Some s.entry
@@ -38,26 +46,19 @@ module _ {K : Type 0} where
       (λ (m : length xs ≤ i). past_vacant (cells g xs) i (omega (arith, length-map xs (cell g))))
       (cases_lt i (length xs))
 
-  pub free_vacant : (g : ℕ) (xs : List (Option (Held K))) → ((i : ℕ) → i < length xs → get_or xs i None ≡ None) → (i : ℕ) → is_held (at (cells g xs) i) ≡ false
+  free_vacant : (g : ℕ) (xs : List (Option (Held K))) → ((i : ℕ) → i < length xs → get_or xs i None ≡ None) → (i : ℕ) → is_held (at (cells g xs) i) ≡ false
   free_vacant g xs free i =
       ⊎_elim
       (λ (m : i < length xs). ap is_held (at_cell g xs i None m ∙ ap (cell g) (free i m)))
       (λ (m : length xs ≤ i). past_vacant (cells g xs) i (omega (arith, length-map xs (cell g))))
       (cases_lt i (length xs))
 
-  pub free_marked : (g : ℕ) (xs : List (Option (Held K))) → ((i : ℕ) → i < length xs → get_or xs i None ≡ None) → Marked g xs
+  free_marked : (g : ℕ) (xs : List (Option (Held K))) → ((i : ℕ) → i < length xs → get_or xs i None ≡ None) → Marked g xs
   free_marked g xs free i =
       ⊎_elim
       (λ (m : i < length xs). omega (arith, ap mark_of (free i m)))
       (λ (m : length xs ≤ i). omega (arith, ap mark_of (get_or_past xs i None m)))
       (cases_lt i (length xs))
-
-  pub free_more : (xs : List (Option (Held K))) (i : ℕ) → i < length xs → ((k : ℕ) → k < i → get_or xs k None ≡ None) → (k : ℕ) → k < i + 1 → get_or (set xs i None) k None ≡ None
-  free_more xs i l old k m =
-      ⊎_elim
-      (λ (e : k ≡ i). subst (λ j. get_or (set xs i None) j None ≡ None) (sym e) (get_or-set_same xs i None None l))
-      (λ (ne : k ≡ i → ⊥). get_or-set_other xs i k None None ne ∙ old k (omega arith))
-      (cases_eq k i)
 
   pub set_marked : (g : ℕ) (xs : List (Option (Held K))) (i : ℕ) (s : Option (Held K)) → i < length xs → mark_of s ≤ g → Marked g xs → Marked g (set xs i s)
   set_marked g xs i s l m old j =
@@ -157,6 +158,11 @@ module _ {K : Type 0} (eq : K → K → Bool) where
       let done = cleared eq (cells g xs) n (length-map xs (cell g) ∙ e) off in
       ((marks, record { holding = done.0; reach = λ q d a p r t. absurd (both_ways _ (off _) (holds_held eq q (at (cells g xs) _) t)) }), done.1)
 
+-- a table whose nodes are free
+pub freed : {K : Type 0} (eq : K → K → Bool) (spread : K → ℕ) (g : ℕ) (xs : List (Option (Held K))) (n : ℕ) → length xs ≡ n → ((i : ℕ) → i < length xs → get_or xs i None ≡ None)
+    → (Marked g xs × Sound eq spread (cells g xs) 0) × Empty n (seen eq (cells g xs))
+freed eq spread g xs n e free = emptied eq spread g xs n e (free_marked g xs free) (free_vacant g xs free)
+
 -- a node that stands for an entry holds it, and is of this generation
 pub now_held : {K : Type 0} (g : ℕ) (s : Held K) (e : Entry K) → cell g (Some s) ≡ Some e → (s.generation ≡ g) × (s.entry ≡ e)
 now_held g s e h =
@@ -189,20 +195,22 @@ module _ {K : Type 0} (eq : K → K → Bool) (spread : K → ℕ) (sym' : (x y 
   reached : (e : Entry K) → Reach eq spread (length cs) (set cs i (Some e)) → Reach eq spread (length (set cs i (Some e))) (set cs i (Some e))
   reached e = subst (λ n. Reach eq spread n (set cs i (Some e))) (sym (length-set cs i (Some e)))
 
-  pub added : length xs < 2 ^ 64 → Opens eq spread (length cs) cs k i → After ((h + 1) % 2 ^ 64) (record { key = k; count = 1 })
-  added small o =
-      let ok = inv.1 in
-      let off : is_held (at cs i) ≡ false = not-true (is_held (at cs i)) o.ready in
-      let none : (j : ℕ) → holds eq k (at cs j) ≡ true → ⊥ = not_there eq spread cs h ok k i o in
-      let fits : h + 1 ≡ (h + 1) % 2 ^ 64 = omega (arith, held_room cs i k o.inside off, ok.holding.number, length-map xs (cell g)) in
-      written (record { key = k; count = 1 }) ((h + 1) % 2 ^ 64) o.inside
-      (subst (λ h'. Sound eq spread (set cs i (occupied k 1)) h') fits (
-      record {
-        holding = inserted eq sym' trans' cs h ok.holding i o.inside k off none;
-        reach = reached (record { key = k; count = 1 }) (reach_new eq spread cs h ok k i o);
-      }
-      ))
-      (inserted_raised eq sym' trans' cs h ok.holding i o.inside k off none)
+  module _ (o : Opens eq spread (length cs) cs k i) where
+    off : is_held (at cs i) ≡ false
+    off = not-true (is_held (at cs i)) o.ready
+
+    pub room : h < length xs
+    room = omega (arith, held_room cs i k o.inside off, inv.1.holding.number, length-map xs (cell g))
+
+    pub added : After (h + 1) (record { key = k; count = 1 })
+    added =
+        let none : (j : ℕ) → holds eq k (at cs j) ≡ true → ⊥ = not_there eq spread cs h inv.1 k i o in
+        written (record { key = k; count = 1 }) (h + 1) o.inside
+        (record {
+          holding = inserted eq sym' trans' cs h inv.1.holding i o.inside k off none;
+          reach = reached (record { key = k; count = 1 }) (reach_new eq spread cs h inv.1 k i o);
+        })
+        (inserted_raised eq sym' trans' cs h inv.1.holding i o.inside k off none)
 
   pub raised : (c : ℕ) (m : Meets eq (length cs) cs k i c) → c < 255 → After h (record { key = m.found; count = c + 1 })
   raised c m lt =

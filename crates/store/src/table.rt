@@ -43,9 +43,7 @@ impl<'a, K: SpreadKey + Drop> Table<'a, K> {
     pub fn new(nodes: &'a mut [Slot<K>]) -> Table<'a, K>
         ensures { Empty (length nodes.old) (seen K.Key.equals result) }
     {
-        for node in nodes.iter_mut() {
-            *node = None;
-        }
+        nodes.fill_with(|| None);
         Table {
             nodes,
             generation: 0,
@@ -65,8 +63,9 @@ impl<K: SpreadKey> Table<'_, K> {
             return Found::Nowhere;
         }
         let home = (key.spread() % n as u64) as usize;
+        // The place is counted by hand: over `(home..n).chain(0..home)` the proof would follow the chain's state.
         let mut i = home;
-        for d in 0..n {
+        for _ in 0..n {
             match &nodes[i] {
                 Some(held) if held.generation == self.generation => {
                     if held.entry.key.same(key) {
@@ -111,8 +110,7 @@ impl<'a, K: SpreadKey + Drop> Store<K> for Table<'a, K> {
                     entry: Entry { key, count: 1 },
                     generation: self.generation,
                 });
-                // Never wraps: fewer keys are held than there are nodes.
-                self.held = self.held.wrapping_add(1);
+                self.held += 1;
                 Ok(())
             }
             Found::Nowhere => Err(Refused::Full),
@@ -125,9 +123,7 @@ impl<'a, K: SpreadKey + Drop> Store<K> for Table<'a, K> {
             self.generation += 1;
             return;
         }
-        for node in self.nodes.iter_mut() {
-            *node = None;
-        }
+        self.nodes.fill_with(|| None);
         self.generation = 0;
     }
 }

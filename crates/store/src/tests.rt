@@ -110,6 +110,15 @@ fn table(rt: HostRuntime) {
     go_through(&rt, &mut Table::new(&mut nodes));
 }
 
+// A free node with links that were left in it.
+fn stale() -> Node<Noted> {
+    Node {
+        entry: None,
+        left: Some(0),
+        right: Some(0),
+    }
+}
+
 #[test]
 fn tree(rt: HostRuntime) {
     let old = Node {
@@ -123,7 +132,7 @@ fn tree(rt: HostRuntime) {
         left: Some(0),
         right: Some(1),
     };
-    let mut nodes: [Node<Noted>; 3] = [Node::default(), old, Node::default()];
+    let mut nodes: [Node<Noted>; 3] = [stale(), old, stale()];
     go_through(&rt, &mut Tree::new(&mut nodes));
 }
 

@@ -90,7 +90,7 @@ impl<K: OrderedKey> Tree<'_, K> {
     {
         let mut link = self.root;
         let mut spot = Spot::Root;
-        for d in 0..self.nodes.len() {
+        for _ in 0..self.nodes.len() {
             let Some(i) = link else {
                 return Found::Open(spot);
             };
@@ -154,20 +154,13 @@ impl<'a, K: OrderedKey + Drop> Store<K> for Tree<'a, K> {
                     entry: Some(Entry { key, count: 1 }),
                     ..Node::default()
                 };
+                self.held += 1;
                 match spot {
-                    Spot::Root => {
-                        self.root = Some(i);
-                    }
-                    Spot::Left(p) => {
-                        self.nodes[p].left = Some(i);
-                    }
-                    Spot::Right(p) => {
-                        self.nodes[p].right = Some(i);
-                    }
+                    Spot::Root => self.root = Some(i),
+                    Spot::Left(p) => self.nodes[p].left = Some(i),
+                    Spot::Right(p) => self.nodes[p].right = Some(i),
                 }
                 self.next = i + 1;
-                // Never wraps: fewer keys are held than there are nodes.
-                self.held = self.held.wrapping_add(1);
                 Ok(())
             }
             Found::Nowhere => Err(Refused::Full),

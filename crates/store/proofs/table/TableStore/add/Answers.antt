@@ -5,7 +5,7 @@ use Rattle.store.specs.Cells.{seen, Meets}
 use Rattle.store.specs.Probes.{cell, Opens}
 use Rattle.store.specs.declared.store.Refused.TheVariants.{Saturated}
 use Rattle.store.proofs.Cells.{kept_same, absent, met_count, held_all}
-use Rattle.store.proofs.Probes.{nowhere, no_room, added, raised_in, not_free}
+use Rattle.store.proofs.Probes.{nowhere, no_room, room, added, raised_in, not_free}
 use Rattle.store.proofs.table.TableStore.add.Goals as goal
 use Rattle.store.proofs.table.TableStore.add.Goals.{in-Some, in_default}
 
@@ -38,12 +38,23 @@ offset_bounds-self-inside-i-in-Open g c =
     omega (arith, c.in-Open.ensures.finds.inside, ap length c.self.view_is, length-map c.self.inside.nodes.now (cell c.self.inside.generation)) in
     search rules
 
+pub overflow_add-self : goal.overflow_add-self
+overflow_add-self g c =
+    let k = g.met.K.Key in
+    let eq = g.K.Key.equals in
+    let spread = g.K.SpreadKey.spreads in
+    omega (
+      arith,
+      room eq spread k.symmetric k.transitive c.self.inside.generation c.self.inside.nodes.now c.self.inside.held c.self.invariant c.args.key c.in-Open.i
+          (subst (λ cs. Opens eq spread (length cs) cs c.args.key c.in-Open.i) (sym c.self.view_is) c.in-Open.ensures.finds),
+    )
+
 pub invariant_of-self-in-Open : goal.invariant_of-self-in-Open
 invariant_of-self-in-Open g c =
     let k = g.met.K.Key in
     let eq = g.K.Key.equals in
     let spread = g.K.SpreadKey.spreads in
-    (added eq spread k.symmetric k.transitive c.self.inside.generation c.self.inside.nodes.now c.self.inside.held c.self.invariant c.args.key c.in-Open.i (omega arith)
+    (added eq spread k.symmetric k.transitive c.self.inside.generation c.self.inside.nodes.now c.self.inside.held c.self.invariant c.args.key c.in-Open.i
     (subst (λ cs. Opens eq spread (length cs) cs c.args.key c.in-Open.i) (sym c.self.view_is) c.in-Open.ensures.finds)).0
 
 pub returns-after-self-i : goal.returns-after-self-i
@@ -67,7 +78,7 @@ returns-in-Open g c =
     let eq = g.K.Key.equals in
     let spread = g.K.SpreadKey.spreads in
     rw (← c.self.view_is)
-    (added eq spread k.symmetric k.transitive c.self.inside.generation c.self.inside.nodes.now c.self.inside.held c.self.invariant c.args.key c.in-Open.i (omega arith)
+    (added eq spread k.symmetric k.transitive c.self.inside.generation c.self.inside.nodes.now c.self.inside.held c.self.invariant c.args.key c.in-Open.i
     (subst (λ cs. Opens eq spread (length cs) cs c.args.key c.in-Open.i) (sym c.self.view_is) c.in-Open.ensures.finds)).1
 
 pub returns-in-Nowhere : goal.returns-in-Nowhere

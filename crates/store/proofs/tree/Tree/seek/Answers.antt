@@ -8,10 +8,10 @@ use Rattle.store.proofs.tree.Tree.seek.Goals.{in-Less, in-Greater}
 pub returns-in_default-clause-seeks : goal.returns-in_default-clause-seeks
 returns-in_default-clause-seeks g c =
     let xs = c.self.inside.nodes.now in
-    let inv = c.loop-d.invariant in
+    let inv = c.loop.invariant in
     rw (← c.self.view_is)
     (record {
-      steps = c.loop-d.d;
+      steps = c.loop.counter;
       within = omega arith;
       nothing = subst (λ j. taken xs j ≡ false) (ap (follow xs) (sym c.in_default.is) ∙ inv.0) (past_free xs (length xs) (omega arith));
       passed = inv.2;
@@ -21,11 +21,11 @@ returns-in_default-clause-seeks g c =
 pub returns-in_default-get-clause-seeks : goal.returns-in_default-get-clause-seeks
 returns-in_default-get-clause-seeks g c =
     let xs = c.self.inside.nodes.now in
-    let inv = c.loop-d.invariant in
+    let inv = c.loop.invariant in
     let past : length xs ≤ c.in-Some.i = search rules in
     rw (← c.self.view_is)
     (record {
-      steps = c.loop-d.d;
+      steps = c.loop.counter;
       within = omega arith;
       nothing = subst (λ j. taken xs j ≡ false) (ap (follow xs) (sym c.in-Some.is) ∙ inv.0) (past_free xs c.in-Some.i past);
       passed = inv.2;
@@ -35,13 +35,13 @@ returns-in_default-get-clause-seeks g c =
 pub returns-in_default-entry-clause-seeks : goal.returns-in_default-entry-clause-seeks
 returns-in_default-entry-clause-seeks g c =
     let xs = c.self.inside.nodes.now in
-    let inv = c.loop-d.invariant in
+    let inv = c.loop.invariant in
     let l : c.in-Some.i < length xs = search rules in
     let node : c.in-Some-get.node.now ≡ get_or xs c.in-Some.i blank = search rules in
     let free : at (cells xs) c.in-Some.i ≡ None = at_entry xs c.in-Some.i blank l ∙ ap (λ n. n.entry) (sym node) ∙ c.in_default-entry.is in
     rw (← c.self.view_is)
     (record {
-      steps = c.loop-d.d;
+      steps = c.loop.counter;
       within = omega arith;
       nothing = subst (λ j. taken xs j ≡ false) (ap (follow xs) (sym c.in-Some.is) ∙ inv.0) (ap is_held free);
       passed = inv.2;
@@ -61,8 +61,8 @@ returns-in-Equal-clause-seeks g c =
       same = g.met.K.Key.symmetric c.args.key.now c.in-Some-entry.entry.key (c.in-Equal.ensures.tie refl);
     })
 
-pub loop-d-preserved : goal.loop-d-preserved
-loop-d-preserved g c =
+pub loop-preserved : goal.loop-preserved
+loop-preserved g c =
     let eq = g.K.Key.equals in
     let ord = g.K.OrderedKey.orders in
     let k = g.met.K.Key in
@@ -70,8 +70,8 @@ loop-d-preserved g c =
     let root = follow xs c.self.inside.root in
     let q = c.args.key.now in
     let i = c.in-Some.i in
-    let d = c.loop-d.d in
-    let inv = c.loop-d.invariant in
+    let d = c.loop.counter in
+    let inv = c.loop.invariant in
     let e = c.in-Some-entry.entry in
     let l : c.in-Some.i < length xs = search rules in
     let node : c.in-Some-get.node.now ≡ get_or xs c.in-Some.i blank = search rules in
@@ -92,5 +92,5 @@ pub returns-clause-seeks : goal.returns-clause-seeks
 returns-clause-seeks g c =
     let xs = c.self.inside.nodes.now in
     let root = follow xs c.self.inside.root in
-    let end : c.loop-d.d ≡ length xs = omega arith in
-    rw (← c.self.view_is) (subst (λ d. Passes g.K.Key.equals g.K.OrderedKey.orders xs root c.args.key.now d) end c.loop-d.invariant.2)
+    let end : c.loop.counter ≡ length xs = omega arith in
+    rw (← c.self.view_is) (subst (λ d. Passes g.K.Key.equals g.K.OrderedKey.orders xs root c.args.key.now d) end c.loop.invariant.2)

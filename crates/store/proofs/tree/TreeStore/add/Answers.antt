@@ -6,7 +6,7 @@ use Rattle.store.specs.Trees.{cells, follow, Ends, Spares}
 use Rattle.store.specs.declared.store.Refused.TheVariants.{Full, Saturated}
 use Rattle.store.proofs.Cells.{kept_same, absent, met_count, held_all}
 use Rattle.store.proofs.Trees.{ended, lost, lost_full}
-use Rattle.store.proofs.Growth.{add_root, add_left, add_right, counted_in, not_free}
+use Rattle.store.proofs.Growth.{room, add_root, add_left, add_right, counted_in, not_free}
 use Rattle.store.proofs.tree.TreeStore.add.Goals as goal
 use Rattle.store.proofs.tree.TreeStore.add.Goals.{in-Some, in_default, in-Root, in-Left, in-Right}
 
@@ -74,6 +74,17 @@ offset_bounds-self-inside-i-in-Open g c =
     let l : c.in_ok-i-in-Open.i < length c.self.inside.nodes.now = omega (arith, free, ap (λ t. length t.1) c.self.view_is) in
     search rules
 
+pub overflow_add-self-in-Open : goal.overflow_add-self-in-Open
+overflow_add-self-in-Open g c =
+    let k = g.met.K.Key in
+    let i = c.in_ok-i-in-Open.i in
+    let some : c.spare.result ≡ Some i = search rules in
+    let spare : Spares c.self.inside.nodes.now (Some i) = subst (λ t. Spares t.1 (Some i)) (sym c.self.view_is) (subst (Spares c.args.self.now.1) some c.spare.ensures) in
+    omega (
+      arith,
+      room g.K.Key.equals g.K.OrderedKey.orders k.reflexive k.symmetric k.transitive c.self.inside.nodes.now c.self.inside.root c.self.inside.held c.self.invariant.0 c.args.key i spare.0 spare.1,
+    )
+
 pub offset_bounds-self-inside-p : goal.offset_bounds-self-inside-p
 offset_bounds-self-inside-p g c =
     let eq = g.K.Key.equals in
@@ -102,13 +113,13 @@ invariant_of-self-in-Open g c =
     let end : Ends eq ord xs (follow xs root) q c.in-Open.spot = subst (λ t. Ends eq ord t.1 (follow t.1 t.0) q c.in-Open.spot) (sym c.self.view_is) c.in-Open.ensures.seeks in
     elim c.match-spot.branch [
       | in-Root w ↦
-          let t = add_root eq ord k.reflexive k.symmetric k.transitive xs root c.self.inside.held c.self.invariant.0 q i spare.0 spare.1 (omega arith) (subst (Ends eq ord xs (follow xs root) q) w.in-Root.is end) in
+          let t = add_root eq ord k.reflexive k.symmetric k.transitive xs root c.self.inside.held c.self.invariant.0 q i spare.0 spare.1 (subst (Ends eq ord xs (follow xs root) q) w.in-Root.is end) in
           rw (w.self-inside-is, c.default.ensures) (t.0, omega (arith, spare.0, t.1))
       | in-Left w ↦
-          let t = add_left eq ord k.reflexive k.symmetric k.transitive xs root c.self.inside.held c.self.invariant.0 q i spare.0 spare.1 (omega arith) w.in-Left.p w.index-self-p.result (subst (Ends eq ord xs (follow xs root) q) w.in-Left.is end) in
+          let t = add_left eq ord k.reflexive k.symmetric k.transitive xs root c.self.inside.held c.self.invariant.0 q i spare.0 spare.1 w.in-Left.p w.index-self-p.result (subst (Ends eq ord xs (follow xs root) q) w.in-Left.is end) in
           rw (w.self-inside-is, c.default.ensures) (t.0, omega (arith, spare.0, t.1))
       | in-Right w ↦
-          let t = add_right eq ord k.reflexive k.symmetric k.transitive xs root c.self.inside.held c.self.invariant.0 q i spare.0 spare.1 (omega arith) w.in-Right.p w.index-self-p-in-Right.result (subst (Ends eq ord xs (follow xs root) q) w.in-Right.is end) in
+          let t = add_right eq ord k.reflexive k.symmetric k.transitive xs root c.self.inside.held c.self.invariant.0 q i spare.0 spare.1 w.in-Right.p w.index-self-p-in-Right.result (subst (Ends eq ord xs (follow xs root) q) w.in-Right.is end) in
           rw (w.self-inside-is, c.default.ensures) (t.0, omega (arith, spare.0, t.1))
     ]
 
@@ -142,12 +153,12 @@ returns-after-spot g c =
     let end : Ends eq ord xs (follow xs root) q c.in-Open.spot = subst (λ t. Ends eq ord t.1 (follow t.1 t.0) q c.in-Open.spot) (sym c.self.view_is) c.in-Open.ensures.seeks in
     elim c.match-spot.branch [
       | in-Root w ↦
-          let t = add_root eq ord k.reflexive k.symmetric k.transitive xs root c.self.inside.held c.self.invariant.0 q i spare.0 spare.1 (omega arith) (subst (Ends eq ord xs (follow xs root) q) w.in-Root.is end) in
+          let t = add_root eq ord k.reflexive k.symmetric k.transitive xs root c.self.inside.held c.self.invariant.0 q i spare.0 spare.1 (subst (Ends eq ord xs (follow xs root) q) w.in-Root.is end) in
           rw (← c.self.view_is, w.self-inside-is, c.default.ensures) t.2
       | in-Left w ↦
-          let t = add_left eq ord k.reflexive k.symmetric k.transitive xs root c.self.inside.held c.self.invariant.0 q i spare.0 spare.1 (omega arith) w.in-Left.p w.index-self-p.result (subst (Ends eq ord xs (follow xs root) q) w.in-Left.is end) in
+          let t = add_left eq ord k.reflexive k.symmetric k.transitive xs root c.self.inside.held c.self.invariant.0 q i spare.0 spare.1 w.in-Left.p w.index-self-p.result (subst (Ends eq ord xs (follow xs root) q) w.in-Left.is end) in
           rw (← c.self.view_is, w.self-inside-is, c.default.ensures) t.2
       | in-Right w ↦
-          let t = add_right eq ord k.reflexive k.symmetric k.transitive xs root c.self.inside.held c.self.invariant.0 q i spare.0 spare.1 (omega arith) w.in-Right.p w.index-self-p-in-Right.result (subst (Ends eq ord xs (follow xs root) q) w.in-Right.is end) in
+          let t = add_right eq ord k.reflexive k.symmetric k.transitive xs root c.self.inside.held c.self.invariant.0 q i spare.0 spare.1 w.in-Right.p w.index-self-p-in-Right.result (subst (Ends eq ord xs (follow xs root) q) w.in-Right.is end) in
           rw (← c.self.view_is, w.self-inside-is, c.default.ensures) t.2
     ]
