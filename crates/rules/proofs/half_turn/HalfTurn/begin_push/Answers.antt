@@ -27,8 +27,7 @@ returns c =
     let neither = decides_neither r b c.if-not-open.call (opened h.pending) is_neither c.is_push_open-open.ensures c.begins_push-begins.ensures in
     let asks = c.in_ok-asked.ensures in
     let same = c.after.ensures.same in
-    let none = turn_none h.side h.board k c.has_made.ensures neither c.is_push_open-open.ensures asks.0 in
-    (
+    let none = turn_none h.side h.board k c.has_made.ensures neither c.is_push_open-open.ensures asks.0 in (
       none,
       (same.0, push_taken h c.after.result k c.in_ok-asked.asked asks.1 same.1 (c.after.ensures.step k asks.1) none (sure b c.begins_push-begins.ensures) same.2),
     )
