@@ -11,9 +11,6 @@ returns-in_err-asked c =
     hit_on_squares c.args.self.side c.args.self.board c.args.code.number (call.steps_made ≡ true) (call.no_push_or_pull ≡ true) (call.unfinished_push ≡ true) _
     c.from_residual.result c.in_err-asked.field-0.0 c.from_residual.ensures.1 c.in_err-asked.ensures
 
-pub returns-then-call : goal.returns-then-call
-returns-then-call c = past c.in_ok-asked.ensures.0 c.if-call.true
-
 pub returns-then-is_stuck : goal.returns-then-is_stuck
 returns-then-is_stuck c =
     let asks = c.in_ok-asked.ensures in
