@@ -24,7 +24,7 @@ pub(super) struct Asked {
     pub piece: Piece,
 }
 
-/// Of the checks, those whose conditions differ from call to call, and whether they hit.
+/// Which of the checks hit whose conditions differ from call to call.
 #[derive(Clone, Copy)]
 pub(super) struct CallChecks {
     pub steps_made: bool,
