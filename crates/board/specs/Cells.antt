@@ -26,6 +26,7 @@ decode g (suc a) zero zero = holding g Horse
 decode g (suc a) zero (suc c) = holding g Camel
 decode g (suc a) (suc b) c = holding g Elephant
 
+-- 1 where a digit is set, else 0
 abbrev pub bit : Bool → ℕ
 bit b = cond b 1 0
 

@@ -22,27 +22,12 @@ impl Digits {
     fn of(holds: Option<Piece>) -> Digits
         ensures { Spells result.gold result.one result.two result.four holds }
     {
-        let Some(piece) = holds else {
-            return Digits {
-                gold: false,
-                one: false,
-                two: false,
-                four: false,
-            };
-        };
-        let (four, two, one) = match piece.kind {
-            Kind::Elephant => (true, true, false),
-            Kind::Camel => (true, false, true),
-            Kind::Horse => (true, false, false),
-            Kind::Dog => (false, true, true),
-            Kind::Cat => (false, true, false),
-            Kind::Rabbit => (false, false, true),
-        };
+        let strength = holds.map_or(0, |piece| piece.kind.strength());
         Digits {
-            gold: piece.side == Side::Gold,
-            one,
-            two,
-            four,
+            gold: holds.is_some_and(|piece| piece.side == Side::Gold),
+            one: strength & 1 != 0,
+            two: strength & 2 != 0,
+            four: strength & 4 != 0,
         }
     }
 }
