@@ -56,6 +56,6 @@ impl PartialEq for Position {
         ensures same { Decides result (self.now ≡ other.now) }
         ensures agreement { Decides result (SameSquares self.now.board other.now.board × (self.now.side ≡ other.now.side)) }
     {
-        (self.side == other.side) & (self.board == other.board)
+        self.side == other.side && self.board == other.board
     }
 }

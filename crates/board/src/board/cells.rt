@@ -135,9 +135,9 @@ impl PartialEq for Board {
         ensures same { Decides result (self.now ≡ other.now) }
         ensures same_squares { Decides result (SameSquares self.now other.now) }
     {
-        (self.gold == other.gold)
-            & (self.ones == other.ones)
-            & (self.twos == other.twos)
-            & (self.fours == other.fours)
+        self.gold == other.gold
+            && self.ones == other.ones
+            && self.twos == other.twos
+            && self.fours == other.fours
     }
 }
