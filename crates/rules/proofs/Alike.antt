@@ -1,9 +1,13 @@
 -- Checks that hit alike are refused alike.
-use Rattle.std.proofs.Common.{ℕ, Bool, true, false, eqb, List, [], ◌∷◌, MatchBool}
+use Rattle.std.proofs.Common.{◌≡◌, ℕ, Bool, true, false, eqb, List, [], ◌∷◌, Result, MatchBool}
+use Rattle.std.specs.Result.{IsErrAnd}
+use Rattle.std.proofs.lemmas.Result.{err_from_is_err_and}
 use Rattle.board.specs.declared.pieces.Side.{Side}
 use Rattle.board.specs.declared.board.Board.{Board}
-use Rattle.board.specs.Refusals.{Check, NoneHits, FirstHit}
+use Rattle.board.specs.declared.refusal.Refusal.{Refusal}
+use Rattle.board.specs.Refusals.{Check, refusal_number, NoneHits, FirstHit}
 use Rattle.rules.specs.Checks.{turn_checks}
+use Rattle.rules.specs.Answers.{Answers}
 
 abbrev EitherWay : Type 0 → Type 0 → Type 0
 EitherWay A B = (A → B) × (B → A)
@@ -36,3 +40,8 @@ module _ (side : Side) (b : Board) (c : ℕ) {M N U M' N' U' : Type 0} (m : Eith
 
   pub turn_first : (k : ℕ) → FirstHit (turn_checks side b c M N U) k → FirstHit (turn_checks side b c M' N' U') k
   turn_first = first_hit alike
+
+  -- a refusal by the checks with the first conditions is one by those with the others
+  pub turn_refused : {A : Type 0} (accepted : A → Type 0) (r : Result A Refusal) (why : Refusal) → IsErrAnd r (λ e. e ≡ why)
+      → FirstHit (turn_checks side b c M N U) (refusal_number why) → Answers (turn_checks side b c M' N' U') accepted r
+  turn_refused accepted r why out h = let p = err_from_is_err_and r out in rw (p.1, p.2) (turn_first (refusal_number why) h)

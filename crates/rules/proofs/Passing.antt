@@ -1,5 +1,5 @@
 -- A code that finds a piece and an empty square to go to is not refused for that.
-use Rattle.std.proofs.Common.{◌≡◌, ℕ, Bool, true, false, is_some, Some, None, Option, MatchOption, sym, ap, ◌∙◌}
+use Rattle.std.proofs.Common.{eqb, List, [], ◌∷◌, ◌++◌, MatchBool, Result, ◌≡◌, ℕ, Bool, true, false, is_some, Some, Option, MatchOption, sym, ap, ◌∙◌, subst}
 use Rattle.std.proofs.lemmas.Bool.{both_ways}
 use Rattle.bits.specs.declared.square.Square.{Square}
 use Rattle.board.specs.declared.pieces.Side.{Side}
@@ -11,6 +11,12 @@ use Rattle.board.specs.Standing.{Frozen}
 use Rattle.rules.specs.declared.half_turn.checks.Asked.{Asked}
 use Rattle.rules.specs.Codes.{square, direction, Goes, back}
 use Rattle.rules.specs.Steps.{Own}
+use Rattle.std.specs.Result.{IsErrAnd}
+use Rattle.std.proofs.lemmas.Result.{err_from_is_err_and}
+use Rattle.board.specs.declared.refusal.Refusal.{Refusal}
+use Rattle.board.specs.Refusals.{Check, refusal_number, NoneHits, FirstHit}
+use Rattle.rules.specs.Checks.{square_checks, piece_checks, turn_checks}
+use Rattle.rules.specs.Answers.{Answers}
 use Rattle.rules.specs.Asked.{AsksFor}
 use Rattle.rules.proofs.Going.{goes_one}
 use Rattle.rules.proofs.Pieces.{not_empty, one_piece}
@@ -29,24 +35,41 @@ finds b c a x o p r at goes to there piece target some none =
     }
 
 module _ {b : Board} {c : ℕ} {a : Asked} (f : AsksFor b c a) where
-  -- the checks up to that of the target, and what is left
-  pub found : {X : Type 0} (many : Bool) → many ≡ false → X
-      → (((t : ℕ) → Goes c t → ⊥) → ⊥)
-      × ((cell b (square c) ≡ None → ⊥) × ((many ≡ true → ⊥) × (((t : ℕ) × (p : Piece) × Goes c t × (cell b t ≡ Some p) → ⊥) × X)))
-  found many few rest = (
+  pub found : (many : Bool) → many ≡ false → NoneHits (square_checks b c (many ≡ true))
+  found many few = (
     λ off. off a.to.number f.goes,
-    (not_empty f.there, (both_ways many few, ((λ x. not_empty x.3 (ap (cell b) (goes_one x.2 f.goes) ∙ f.empty)), rest))),
+    (not_empty f.there, (both_ways many few, ((λ x. not_empty x.3 (ap (cell b) (goes_one x.2 f.goes) ∙ f.empty)), tt))),
   )
 
   module _ (side : Side) where
     pub owned : a.piece.side ≡ side → Own side b (square c) a.piece
     owned mine = record { there = f.there; mine = mine }
 
-    pub unfrozen : ((a.piece.side ≡ side) × Frozen b (square c) → ⊥) → (q : Piece) × Own side b (square c) q × Frozen b (square c) → ⊥
-    unfrozen free x = free (ap (λ (p : Piece). p.side) (one_piece f.there x.1.there) ∙ x.1.mine, x.2)
+    pub unfrozen : ((a.piece.side ≡ side) × Frozen b a.from.number → ⊥) → (q : Piece) × Own side b (square c) q × Frozen b (square c) → ⊥
+    unfrozen free x = free (ap (λ (p : Piece). p.side) (one_piece f.there x.1.there) ∙ x.1.mine, subst (Frozen b) (sym f.stands) x.2)
 
     pub forward : ((a.piece.side ≡ side) × (a.piece.kind ≡ Rabbit) × (direction c ≡ back side) → ⊥)
         → (q : Piece) × Own side b (square c) q × (q.kind ≡ Rabbit) × (direction c ≡ back side) → ⊥
     forward ahead x =
         let same = one_piece f.there x.1.there in
         ahead (ap (λ (p : Piece). p.side) same ∙ x.1.mine, ap (λ (p : Piece). p.kind) same ∙ x.2, x.3)
+
+-- the first hit of some checks is that of them and more
+first_more : (cs ds : List Check) (n : ℕ) → FirstHit cs n → FirstHit (cs ++ ds) n
+first_more [] ds n h = absurd h
+first_more (c ∷ cs) ds n h = go (eqb c.0 n) (first_more cs ds n) h
+  where
+    go : (x : Bool) → (FirstHit cs n → FirstHit (cs ++ ds) n) → MatchBool x c.1 ((c.1 → ⊥) × FirstHit cs n) → MatchBool x c.1 ((c.1 → ⊥) × FirstHit (cs ++ ds) n)
+    go true more h = h
+    go false more h = (h.0, more h.1)
+
+module _ (side : Side) (b : Board) (c : ℕ) (many neither unfinished : Type 0) where
+  pub hit_on_squares : (accepted : Asked → Type 0) (r : Result Asked Refusal) (why : Refusal) → IsErrAnd r (λ e. e ≡ why) → FirstHit (square_checks b c many) (refusal_number why)
+      → Answers (turn_checks side b c many neither unfinished) accepted r
+  hit_on_squares accepted r why out h =
+      let p = err_from_is_err_and r out in
+      rw (p.1, p.2) (first_more (square_checks b c many) (piece_checks side b c neither unfinished) (refusal_number why) h)
+
+-- past the four checks on the squares, and what is left
+pub past : {A B C D X : Type 0} → A × (B × (C × (D × Unit {0}))) → X → A × (B × (C × (D × X)))
+past h x = (h.0, (h.1.0, (h.1.1.0, (h.1.1.1.0, x))))

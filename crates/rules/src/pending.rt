@@ -5,7 +5,7 @@ use board::Kind;
 #[derive(Clone, Copy)]
 pub enum Pending {
     Nothing,
-    /// An own piece of the kind made a plain step from the square that it left: a weaker enemy may be pulled there.
+    /// An own piece of the kind left the square by a plain step: a weaker enemy may be pulled there.
     Pull { left: Square, puller: Kind },
     /// An enemy piece of the kind was pushed off the square: a stronger own piece has to follow.
     Push { left: Square, pushed: Kind },

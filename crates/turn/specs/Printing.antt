@@ -14,7 +14,7 @@ outcome_text (Start b) = codes "start " ++ letters_of b
 outcome_text (Turn b) = codes "turn " ++ letters_of b
 outcome_text (Half b) = codes "half " ++ letters_of b
 
--- the number of the refusal, and the place of the refused code, from 1
+-- the number of the refusal, and the place of the refused code, from 1 (2 ^ 64 - 1 stands for any place past it)
 abbrev pub complaint_text : Complaint → List ℕ
 complaint_text Unreadable = codes "unreadable"
 complaint_text (NoBoard why) = codes "no " ++ decimal (refusal_number why)

@@ -6,7 +6,7 @@ ghost use Rattle.rules.specs.Codes.{direction, back};
 ghost use Rattle.rules.specs.Room.{room};
 ghost use Rattle.rules.specs.Steps.{Step};
 ghost use Rattle.rules.specs.Asked.{AsksFor};
-ghost use Rattle.rules.specs.Checks.{turn_checks};
+ghost use Rattle.rules.specs.Checks.{square_checks, turn_checks};
 ghost use Rattle.rules.specs.Answers.{Answers};
 
 use super::HalfTurn;
@@ -24,7 +24,7 @@ pub(super) struct Asked {
     pub piece: Piece,
 }
 
-/// Of the checks, those whose conditions differ from call to call, and whether they hit.
+/// Which of the checks hit whose conditions differ from call to call.
 #[derive(Clone, Copy)]
 pub(super) struct CallChecks {
     pub steps_made: bool,
@@ -33,32 +33,40 @@ pub(super) struct CallChecks {
 }
 
 impl HalfTurn {
-    /// What the code asks for, or the first check that hits.
-    pub(super) fn checked(self, code: StepCode, call: CallChecks) -> Result<Asked, Refusal>
-        ensures { Answers (turn_checks self.side self.board code.number (call.steps_made ≡ true) (call.no_push_or_pull ≡ true) (call.unfinished_push ≡ true)) (AsksFor self.board code.number) result }
+    /// What the code asks for, or the first hit of the checks up to that of the target.
+    fn asked(self, code: StepCode, steps_made: bool) -> Result<Asked, Refusal>
+        ensures { Answers (square_checks self.board code.number (steps_made ≡ true)) (AsksFor self.board code.number) result }
     {
         let from = code.square();
         let to = code.target().ok_or(Refusal::OffBoard)?;
         let piece = self.board.at(from).ok_or(Refusal::EmptySquare)?;
-        if call.steps_made {
+        if steps_made {
             return Err(Refusal::StepsMade);
         }
         if self.board.at(to).is_some() {
             return Err(Refusal::Occupied);
         }
+        Ok(Asked { from, to, piece })
+    }
+
+    /// What the code asks for, or the first check that hits.
+    pub(super) fn checked(self, code: StepCode, call: CallChecks) -> Result<Asked, Refusal>
+        ensures { Answers (turn_checks self.side self.board code.number (call.steps_made ≡ true) (call.no_push_or_pull ≡ true) (call.unfinished_push ≡ true)) (AsksFor self.board code.number) result }
+    {
+        let asked = self.asked(code, call.steps_made)?;
         if call.no_push_or_pull {
             return Err(Refusal::NoPushOrPull);
         }
-        if self.is_stuck(from, piece) {
+        if self.is_stuck(asked.from, asked.piece) {
             return Err(Refusal::Frozen);
         }
-        if self.goes_backward(code, piece) {
+        if self.goes_backward(code, asked.piece) {
             return Err(Refusal::RabbitBackward);
         }
         if call.unfinished_push {
             return Err(Refusal::UnfinishedPush);
         }
-        Ok(Asked { from, to, piece })
+        Ok(asked)
     }
 
     /// Whether the piece is own and frozen.
