@@ -10,7 +10,7 @@ ghost use Rattle.rules.specs.Checks.{Foreign};
 use super::HalfTurn;
 use crate::{Pending, StepCode};
 use bits::Square;
-use board::{Kind, Piece};
+use board::{Kind, Piece, Side};
 
 impl HalfTurn {
     pub fn is_push_open(self) -> bool
@@ -26,22 +26,25 @@ impl HalfTurn {
         !self.is_push_open() && self.steps >= steps
     }
 
+    /// The side's piece on the square, if there is one.
+    fn piece_of(self, side: Side, square: Square) -> Option<Piece>
+        ensures { MatchOption result ((p : PieceT) → Own side self.board square.number p → ⊥) (Own side self.board square.number) }
+    {
+        self.board.at(square).filter(|piece| piece.side == side)
+    }
+
     /// The own piece on the square, if there is one.
     fn own_at(self, square: Square) -> Option<Piece>
         ensures { MatchOption result ((p : PieceT) → Own self.side self.board square.number p → ⊥) (Own self.side self.board square.number) }
     {
-        self.board
-            .at(square)
-            .filter(|piece| piece.side == self.side)
+        self.piece_of(self.side, square)
     }
 
     /// The enemy piece on the square, if there is one.
     fn enemy_at(self, square: Square) -> Option<Piece>
         ensures { MatchOption result ((p : PieceT) → Enemy self.side self.board square.number p → ⊥) (Enemy self.side self.board square.number) }
     {
-        self.board
-            .at(square)
-            .filter(|piece| piece.side == self.side.other())
+        self.piece_of(self.side.other(), square)
     }
 
     /// Whether the code's square holds an enemy piece.
