@@ -15,9 +15,3 @@ next_toward j k (inl (r, inl c)) = (West, (r, c))
 next_toward j k (inl (r, inr c)) = (East, (r, sym c))
 next_toward j k (inr (c, inl r)) = (South, (r, c))
 next_toward j k (inr (c, inr r)) = (North, (sym r, c))
-
-pub next_sym : (s k : ℕ) → Next s k → Next k s
-next_sym s k (inl (r, inl c)) = inl (sym r, inr c)
-next_sym s k (inl (r, inr c)) = inl (sym r, inl c)
-next_sym s k (inr (c, inl r)) = inr (sym c, inr r)
-next_sym s k (inr (c, inr r)) = inr (sym c, inl r)
