@@ -1,5 +1,5 @@
 -- The numbers and layers of refusals, and the first check that hits.
-use Rattle.std.specs.Prelude.{ℕ, List, [], ◌∷◌, MatchBool, ◌==◌}
+use Rattle.std.specs.Prelude.{ℕ, List, [], ◌∷◌, MatchBool, ◌==◌, codes}
 use Rattle.board.specs.declared.refusal.Refusal.{Refusal}
 use Rattle.board.specs.declared.refusal.Refusal.TheVariants.{
   Form,
@@ -87,6 +87,35 @@ refusal_layer ThirdTime = Rules
 refusal_layer StoreFull = Store
 refusal_layer CountFull = Store
 refusal_layer ShortMemory = Caller
+
+-- what a refusal is printed as
+abbrev pub refusal_text : Refusal → List ℕ
+refusal_text Form = codes "wrong form"
+refusal_text MatchEnded = codes "the match has ended"
+refusal_text NotDue = codes "not due"
+refusal_text SetupSquare = codes "wrong square of a setup"
+refusal_text OtherPiece = codes "another piece"
+refusal_text Length = codes "not 64 letters for a position, or not 16 for a setup"
+refusal_text SideNumber = codes "the side number is neither 0 nor 1"
+refusal_text Letter = codes "a byte is no letter of a square, or in a setup no letter of the side"
+refusal_text FullSet = codes "a position has more of a kind than the full set, or a setup is not just the full set"
+refusal_text Unsupported = codes "a piece on a trap has no friend next to it"
+refusal_text HistoryCapacity = codes "the capacity of the history is reached"
+refusal_text OffBoard = codes "the step leaves the board"
+refusal_text EmptySquare = codes "the square is empty"
+refusal_text StepsMade = codes "too many steps are made"
+refusal_text Occupied = codes "the target is occupied"
+refusal_text NoPushOrPull = codes "the step is neither a push nor a pull"
+refusal_text Frozen = codes "the piece is frozen"
+refusal_text RabbitBackward = codes "a rabbit goes backward"
+refusal_text UnfinishedPush = codes "a push stays unfinished"
+refusal_text Removal = codes "wrong removal"
+refusal_text HalfPush = codes "half a push"
+refusal_text Unchanged = codes "the position is unchanged"
+refusal_text ThirdTime = codes "the position stands a third time"
+refusal_text StoreFull = codes "the key is not held, and as many keys are held as the capacity"
+refusal_text CountFull = codes "the key's count is 255"
+refusal_text ShortMemory = codes "the memory is too short"
 
 -- a check has a number, and says when it hits; the checks of a call stand in order
 abbrev pub Check : Type 1

@@ -6,33 +6,30 @@ ghost use Rattle.board.specs.Letters.{letter_of, LetterRead};
 use crate::Refusal;
 use std::fmt;
 
-#[derive(Clone, Copy, Debug, PartialEq, Eq)]
+#[derive(Clone, Copy, PartialEq, Eq)]
 pub enum Side {
     Gold,
     Silver,
 }
 
-/// The kinds, the strongest first.
-#[derive(Clone, Copy, Debug, PartialEq, Eq)]
+/// The kinds, the strongest first, each with its strength.
+#[derive(Clone, Copy, PartialEq, Eq)]
 pub enum Kind {
-    Elephant,
-    Camel,
-    Horse,
-    Dog,
-    Cat,
-    Rabbit,
+    Elephant = 6,
+    Camel = 5,
+    Horse = 4,
+    Dog = 3,
+    Cat = 2,
+    Rabbit = 1,
 }
 
-#[derive(Clone, Copy, Debug, PartialEq, Eq)]
+#[derive(Clone, Copy, PartialEq, Eq)]
 pub struct Piece {
     pub side: Side,
     pub kind: Kind,
 }
 
 impl Side {
-    /// Each side once, in the order of their numbers.
-    pub const ALL: [Side; 2] = [Side::Gold, Side::Silver];
-
     pub fn other(self) -> Side
         ensures { result ≡ opponent self }
     {
@@ -69,7 +66,7 @@ impl From<Side> for u8 {
 
 impl Kind {
     /// Each kind once, the strongest first.
-    pub const ALL: [Kind; 6] = [
+    pub(crate) const ALL: [Kind; 6] = [
         Kind::Elephant,
         Kind::Camel,
         Kind::Horse,
@@ -82,14 +79,7 @@ impl Kind {
     pub fn strength(self) -> u8
         ensures { result ≡ power self }
     {
-        match self {
-            Kind::Elephant => 6,
-            Kind::Camel => 5,
-            Kind::Horse => 4,
-            Kind::Dog => 3,
-            Kind::Cat => 2,
-            Kind::Rabbit => 1,
-        }
+        self as u8
     }
 
     pub fn is_stronger(self, than: Kind) -> bool

@@ -21,7 +21,9 @@ pub struct Position {
 fn exceeds_full_set(board: Board) -> bool
     ensures { Decides result ((side : Side) × (kind : Kind) × (full kind < count_of board side kind)) }
 {
-    Side::ALL.iter().any(|side| board.exceeds_full_set(*side))
+    [Side::Gold, Side::Silver]
+        .iter()
+        .any(|side| board.exceeds_full_set(*side))
 }
 
 impl Position {
@@ -58,4 +60,8 @@ impl PartialEq for Position {
     {
         self.side == other.side && self.board == other.board
     }
+}
+
+impl Eq for Position {
+    ghost laws = { Prim.search (comparing, rules) };
 }

@@ -1,6 +1,6 @@
 ghost use Rattle.std.specs.Prelude.{◌≡◌, ℕ, ◌-◌, ◌<◌, min, max, ◌≢◌, if◌then◌else◌, Decides, MatchOption};
 ghost use Rattle.bits.specs.Digits.{digit, tally};
-ghost use Rattle.bits.specs.Planes.{on};
+ghost use Rattle.bits.specs.Planes.{on, Changed};
 
 use super::Plane;
 use crate::Square;
@@ -37,8 +37,7 @@ impl Plane {
 
     #[tactic(auto, using(crate::proofs::Digits::or_of_64, crate::proofs::Digits::digit_with_here, crate::proofs::Digits::digit_with_other))]
     pub fn with(self, square: Square) -> Plane
-        ensures here { on result square.number ≡ 1 }
-        ensures others { (k : ℕ) → k ≢ square.number → on result k ≡ on self k }
+        ensures { Changed self result square.number 1 }
     {
         Plane {
             word: self.word | (1 << square.number()),
@@ -47,8 +46,7 @@ impl Plane {
 
     #[tactic(auto, using(crate::proofs::Digits::digit_without_here, crate::proofs::Digits::digit_without_other))]
     pub fn without(self, square: Square) -> Plane
-        ensures here { on result square.number ≡ 0 }
-        ensures others { (k : ℕ) → k ≢ square.number → on result k ≡ on self k }
+        ensures { Changed self result square.number 0 }
     {
         Plane {
             word: self.word & !(1 << square.number()),
@@ -57,8 +55,7 @@ impl Plane {
 
     /// With the square or without it, as said.
     pub fn set(self, square: Square, present: bool) -> Plane
-        ensures here { on result square.number ≡ (if present then 1 else 0) }
-        ensures others { (k : ℕ) → k ≢ square.number → on result k ≡ on self k }
+        ensures { Changed self result square.number (if present then 1 else 0) }
     {
         if present {
             self.with(square)

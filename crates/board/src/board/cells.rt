@@ -141,3 +141,7 @@ impl PartialEq for Board {
             && self.fours == other.fours
     }
 }
+
+impl Eq for Board {
+    ghost laws = { Prim.search (comparing, rules) };
+}
