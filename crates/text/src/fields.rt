@@ -16,7 +16,7 @@ fn cut(text: &[u8], by: u8) -> (&[u8], Option<&[u8]>)
 }
 
 /// The pieces of a text between the bytes that part them.
-// It isn't std's `Split`, whose type names a closure, which no signature can.
+// It isn't std's `Split`: no function can give one whose test it makes itself.
 #[derive(Drop)]
 pub struct Pieces<'a> {
     rest: Option<&'a [u8]>,
