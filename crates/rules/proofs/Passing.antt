@@ -1,5 +1,5 @@
 -- A code that finds a piece and an empty square to go to is not refused for that.
-use Rattle.std.proofs.Common.{eqb, List, [], ◌∷◌, ◌++◌, MatchBool, Result, ◌≡◌, ℕ, Bool, true, false, is_some, Some, Option, MatchOption, sym, ap, ◌∙◌, subst}
+use Rattle.std.proofs.Common.{eqb, List, [], ◌∷◌, take, MatchBool, Result, ◌≡◌, ℕ, zero, suc, Bool, true, false, is_some, Some, Option, MatchOption, sym, ap, ◌∙◌, subst}
 use Rattle.std.proofs.lemmas.Bool.{both_ways}
 use Rattle.bits.specs.declared.square.Square.{Square}
 use Rattle.board.specs.declared.pieces.Side.{Side}
@@ -15,7 +15,7 @@ use Rattle.std.specs.Result.{IsErrAnd}
 use Rattle.std.proofs.lemmas.Result.{err_from_is_err_and}
 use Rattle.board.specs.declared.refusal.Refusal.{Refusal}
 use Rattle.board.specs.Refusals.{Check, refusal_number, NoneHits, FirstHit}
-use Rattle.rules.specs.Checks.{square_checks, piece_checks, turn_checks}
+use Rattle.rules.specs.Checks.{turn_checks}
 use Rattle.rules.specs.Answers.{Answers}
 use Rattle.rules.specs.Asked.{AsksFor}
 use Rattle.rules.proofs.Going.{goes_one}
@@ -35,8 +35,8 @@ finds b c a x o p r at goes to there piece target some none =
     }
 
 module _ {b : Board} {c : ℕ} {a : Asked} (f : AsksFor b c a) where
-  pub found : (many : Bool) → many ≡ false → NoneHits (square_checks b c (many ≡ true))
-  found many few = (
+  pub found : (side : Side) (many : Bool) → many ≡ false → NoneHits (take 4 (turn_checks side b c (many ≡ true) ⊥ ⊥))
+  found side many few = (
     λ off. off a.to.number f.goes,
     (not_empty f.there, (both_ways many few, ((λ x. not_empty x.3 (ap (cell b) (goes_one x.2 f.goes) ∙ f.empty)), tt))),
   )
@@ -54,21 +54,22 @@ module _ {b : Board} {c : ℕ} {a : Asked} (f : AsksFor b c a) where
         let same = one_piece f.there x.1.there in
         ahead (ap (λ (p : Piece). p.side) same ∙ x.1.mine, ap (λ (p : Piece). p.kind) same ∙ x.2, x.3)
 
--- the first hit of some checks is that of them and more
-first_more : (cs ds : List Check) (n : ℕ) → FirstHit cs n → FirstHit (cs ++ ds) n
-first_more [] ds n h = absurd h
-first_more (c ∷ cs) ds n h = go (eqb c.0 n) (first_more cs ds n) h
+-- the first hit of the first checks is that of all
+first_of_all : (k : ℕ) (cs : List Check) (n : ℕ) → FirstHit (take k cs) n → FirstHit cs n
+first_of_all zero cs n h = absurd h
+first_of_all (suc k) [] n h = h
+first_of_all (suc k) (c ∷ cs) n h = go (eqb c.0 n) (first_of_all k cs n) h
   where
-    go : (x : Bool) → (FirstHit cs n → FirstHit (cs ++ ds) n) → MatchBool x c.1 ((c.1 → ⊥) × FirstHit cs n) → MatchBool x c.1 ((c.1 → ⊥) × FirstHit (cs ++ ds) n)
+    go : (x : Bool) → (FirstHit (take k cs) n → FirstHit cs n) → MatchBool x c.1 ((c.1 → ⊥) × FirstHit (take k cs) n) → MatchBool x c.1 ((c.1 → ⊥) × FirstHit cs n)
     go true more h = h
     go false more h = (h.0, more h.1)
 
 module _ (side : Side) (b : Board) (c : ℕ) (many neither unfinished : Type 0) where
-  pub hit_on_squares : (accepted : Asked → Type 0) (r : Result Asked Refusal) (why : Refusal) → IsErrAnd r (λ e. e ≡ why) → FirstHit (square_checks b c many) (refusal_number why)
-      → Answers (turn_checks side b c many neither unfinished) accepted r
+  pub hit_on_squares : (accepted : Asked → Type 0) (r : Result Asked Refusal) (why : Refusal) → IsErrAnd r (λ e. e ≡ why)
+      → FirstHit (take 4 (turn_checks side b c many ⊥ ⊥)) (refusal_number why) → Answers (turn_checks side b c many neither unfinished) accepted r
   hit_on_squares accepted r why out h =
       let p = err_from_is_err_and r out in
-      rw (p.1, p.2) (first_more (square_checks b c many) (piece_checks side b c neither unfinished) (refusal_number why) h)
+      rw (p.1, p.2) (first_of_all 4 (turn_checks side b c many neither unfinished) (refusal_number why) h)
 
 -- past the four checks on the squares, and what is left
 pub past : {A B C D X : Type 0} → A × (B × (C × (D × Unit {0}))) → X → A × (B × (C × (D × X)))

@@ -1,5 +1,5 @@
 -- When a step is refused: the checks of each call on a half-made turn, in order.
-use Rattle.std.specs.Prelude.{◌≡◌, ℕ, ◌≤◌, ◌⊎◌, List, [], ◌∷◌, ◌++◌, Some, None}
+use Rattle.std.specs.Prelude.{◌≡◌, ℕ, ◌≤◌, ◌⊎◌, List, [], ◌∷◌, Some, None}
 use Rattle.board.specs.declared.pieces.Side.{Side}
 use Rattle.board.specs.declared.pieces.Piece.{Piece}
 use Rattle.board.specs.declared.pieces.Kind.TheVariants.{Rabbit}
@@ -13,9 +13,10 @@ use Rattle.rules.specs.Actions.{BeginsPush}
 use Rattle.rules.specs.HalfTurns.{Half, NoPush, Ends, Finishes}
 use Rattle.rules.specs.HalfTurns.Half.{half}
 
--- the checks up to that of the target; each call says when too many steps are made
-abbrev pub square_checks : Board → ℕ → Type 0 → List Check
-square_checks b c many =
+-- the checks that all calls share; each call says when too many steps are made, when a step is neither a push nor a pull,
+-- and when a push stays unfinished
+abbrev pub turn_checks : Side → Board → ℕ → Type 0 → Type 0 → Type 0 → List Check
+turn_checks side b c many neither unfinished =
     -- the step leaves the board
     (12, (t : ℕ) → Goes c t → ⊥) ∷
     -- the square is empty
@@ -23,11 +24,6 @@ square_checks b c many =
     (14, many) ∷
     -- the target is occupied
     (15, (t : ℕ) × (p : Piece) × Goes c t × (cell b t ≡ Some p)) ∷
-    []
-
--- the checks after those; each call says when the step is neither a push nor a pull, and when a push stays unfinished
-abbrev pub piece_checks : Side → Board → ℕ → Type 0 → Type 0 → List Check
-piece_checks side b c neither unfinished =
     (16, neither) ∷
     -- the own piece is frozen
     (17, (p : Piece) × Own side b (square c) p × Frozen b (square c)) ∷
@@ -35,10 +31,6 @@ piece_checks side b c neither unfinished =
     (18, (p : Piece) × Own side b (square c) p × (p.kind ≡ Rabbit) × (direction c ≡ back side)) ∷
     (19, unfinished) ∷
     []
-
--- the checks that all calls share
-abbrev pub turn_checks : Side → Board → ℕ → Type 0 → Type 0 → Type 0 → List Check
-turn_checks side b c many neither unfinished = square_checks b c many ++ piece_checks side b c neither unfinished
 
 -- an enemy piece would step, and ends no pull
 abbrev pub Foreign : Side → Half → ℕ → Type 0

@@ -1,9 +1,8 @@
 -- Step codes: 4 * square + direction, the directions north 0, east 1, south 2 and west 3.
-use Rattle.std.specs.Prelude.{ℕ, zero, suc, ◌/◌, ◌%◌, ◌<◌, List, map}
+use Rattle.std.specs.Prelude.{ℕ, zero, suc, ◌/◌, ◌%◌, ◌<◌}
 use Rattle.bits.specs.declared.direction.Direction.{Direction}
 use Rattle.bits.specs.declared.direction.Direction.TheVariants.{North, East, South, West}
 use Rattle.bits.specs.Squares.{Toward}
-use Rattle.rules.specs.declared.codes.StepCode.{StepCode}
 use Rattle.board.specs.declared.pieces.Side.{Side}
 use Rattle.board.specs.declared.pieces.Side.TheVariants.{Gold, Silver}
 
@@ -30,7 +29,3 @@ pub record Goes (c t : ℕ) : Type 0 where
 abbrev pub back : Side → Direction
 back Gold = South
 back Silver = North
-
--- the numbers of the codes
-abbrev pub numbers : List StepCode → List ℕ
-numbers codes = map (λ c. c.number) codes

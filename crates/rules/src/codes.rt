@@ -6,7 +6,7 @@ use bits::{Direction, Square};
 use board::Side;
 
 /// A step of one piece: the square that it stands on, and the direction that it steps in.
-#[derive(Clone, Copy, PartialEq, Eq, PartialOrd, Ord, Debug)]
+#[derive(Clone, Copy, PartialEq, Eq)]
 pub struct StepCode {
     number: u8,
 }

@@ -3,7 +3,6 @@ ghost use Rattle.std.specs.Prelude.{◌≡◌};
 ghost use Rattle.board.specs.declared.board.Board.{Board as BoardT};
 ghost use Rattle.board.specs.Counts.{Lawful};
 ghost use Rattle.rules.specs.declared.playing.Played.TheVariants.{Whole};
-ghost use Rattle.rules.specs.Codes.{numbers};
 ghost use Rattle.rules.specs.Actions.{Turn};
 ghost use Rattle.rules.specs.Played.{Plays};
 
@@ -30,14 +29,16 @@ pub struct StepRefused {
 }
 
 /// Plays the codes from the position.
-pub fn play(position: Position, codes: &[StepCode]) -> Result<Played, StepRefused>
-    ensures exact { Plays position.side position.board (numbers codes.now) result }
-    ensures turns_are_what_is_read_whole { (b : BoardT) → (Turn position.side position.board (numbers codes.now) b → result ≡ Ok (Whole b)) × (result ≡ Ok (Whole b) → Turn position.side position.board (numbers codes.now) b) }
+pub fn play(position: Position, codes: &[u8]) -> Result<Played, StepRefused>
+    ensures exact { Plays position.side position.board codes.now result }
+    ensures turns_are_what_is_read_whole { (b : BoardT) → (Turn position.side position.board codes.now b → result ≡ Ok (Whole b)) × (result ≡ Ok (Whole b) → Turn position.side position.board codes.now b) }
     ensures a_position_stays_one { Lawful position.board → (b : BoardT) → result ≡ Ok (Whole b) → Lawful b }
 {
     let mut turn = HalfTurn::start(position);
     for (at, code) in codes.iter().enumerate() {
-        turn = turn.read(*code).map_err(|why| StepRefused { at, why })?;
+        turn = turn
+            .read(StepCode::from(*code))
+            .map_err(|why| StepRefused { at, why })?;
     }
     let board = turn.board();
     if codes.is_empty() {

@@ -1,7 +1,6 @@
 -- The line of a task.
 use Rattle.std.specs.Prelude.{◌≡◌, ℕ, List, ◌∷◌, Some, None, vec_items, Option}
 use Rattle.turn.specs.declared.task.Task.{Task}
-use Rattle.rules.specs.Codes.{numbers}
 use Rattle.text.specs.Parting.{pieces}
 use Rattle.text.specs.Numerals.{Numeral, Numerals}
 
@@ -16,4 +15,4 @@ pub record Says (line letters : List ℕ) (side : ℕ) (codes : List ℕ) : Type
 -- what is read of the line: its task, or that it says none
 abbrev pub ReadAs : List ℕ → Option Task → Type 0
 ReadAs line None = (letters codes : List ℕ) (side : ℕ) → Says line letters side codes → ⊥
-ReadAs line (Some t) = Says line t.letters.now t.side (numbers (vec_items t.codes))
+ReadAs line (Some t) = Says line t.letters.now t.side (vec_items t.codes)

@@ -1,6 +1,5 @@
 // What a task is answered.
 ghost use Rattle.std.specs.Prelude.{◌≡◌, Some, IfOk};
-ghost use Rattle.rules.specs.Codes.{numbers};
 ghost use Rattle.turn.specs.declared.answer.Complaint.TheVariants.{NoBoard, NoStep};
 ghost use Rattle.turn.specs.Judging.{Judged, Answered};
 ghost use Rattle.turn.specs.Printing.{outcome_text, complaint_text};
@@ -35,18 +34,18 @@ pub enum Complaint {
 }
 
 impl From<Refusal> for Complaint {
-    ghost from_gives = { λ why complaint. complaint ≡ NoBoard why };
+    ghost from_gives = { λ refusal complaint. complaint ≡ NoBoard refusal };
 
-    fn from(why: Refusal) -> Complaint {
-        Complaint::NoBoard(why)
+    fn from(refusal: Refusal) -> Complaint {
+        Complaint::NoBoard(refusal)
     }
 }
 
 impl From<StepRefused> for Complaint {
-    ghost from_gives = { λ refused complaint. complaint ≡ NoStep refused };
+    ghost from_gives = { λ step complaint. complaint ≡ NoStep step };
 
-    fn from(refused: StepRefused) -> Complaint {
-        Complaint::NoStep(refused)
+    fn from(step: StepRefused) -> Complaint {
+        Complaint::NoStep(step)
     }
 }
 
@@ -61,7 +60,7 @@ pub fn to_line(heap: Global, line: &[u8]) -> Result<Result<Outcome, Complaint>, 
 }
 
 fn to_task(task: &Task<'_>) -> Result<Outcome, Complaint>
-    ensures { Judged task.now.letters.now task.now.side (numbers task.now.codes.items) result }
+    ensures { Judged task.now.letters.now task.now.side task.now.codes.items result }
 {
     let position = Position::from_letters(task.letters, task.side)?;
     Ok(match play(position, task.codes.as_slice())? {

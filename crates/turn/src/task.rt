@@ -2,10 +2,8 @@
 ghost use Rattle.std.specs.Prelude.{ℕ, List, IfOk, MatchOption};
 ghost use Rattle.text.specs.Numerals.{Numerals};
 ghost use Rattle.text.specs.Fields.{to_come};
-ghost use Rattle.rules.specs.Codes.{numbers};
 ghost use Rattle.turn.specs.Tasks.{ReadAs};
 
-use rules::StepCode;
 use std::alloc::{AllocError, Global};
 use text::fields::fields;
 use text::{Pieces, number};
@@ -14,21 +12,21 @@ use text::{Pieces, number};
 pub struct Task<'a> {
     pub letters: &'a [u8],
     pub side: u8,
-    pub codes: Vec<StepCode>,
+    pub codes: Vec<u8>,
 }
 
-/// The codes whose numbers the fields spell, if each spells one.
-fn codes(heap: Global, fields: Pieces<'_>) -> Result<Option<Vec<StepCode>>, AllocError>
-    ensures { IfOk result (λ o. MatchOption o ((ns : List ℕ) → Numerals (to_come fields.entry) ns → ⊥) (λ v. Numerals (to_come fields.entry) (numbers v.items))) }
+/// The numbers that the fields spell, if each spells one.
+fn numbers(heap: Global, fields: Pieces<'_>) -> Result<Option<Vec<u8>>, AllocError>
+    ensures { IfOk result (λ o. MatchOption o ((ns : List ℕ) → Numerals (to_come fields.entry) ns → ⊥) (λ v. Numerals (to_come fields.entry) v.items)) }
 {
-    let mut codes = Vec::new(heap);
+    let mut numbers = Vec::new(heap);
     for field in fields {
         let Some(number) = number(field) else {
             return Ok(None);
         };
-        codes.push(StepCode::from(number))?;
+        numbers.push(number)?;
     }
-    Ok(Some(codes))
+    Ok(Some(numbers))
 }
 
 impl<'a> Task<'a> {
@@ -43,7 +41,7 @@ impl<'a> Task<'a> {
         let Some(side) = number(side) else {
             return Ok(None);
         };
-        let Some(codes) = codes(heap, fields)? else {
+        let Some(codes) = numbers(heap, fields)? else {
             return Ok(None);
         };
         Ok(Some(Task {

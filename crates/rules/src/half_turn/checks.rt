@@ -1,12 +1,12 @@
 // The checks of a step, in order, and the step itself.
-ghost use Rattle.std.specs.Prelude.{◌≡◌, ℕ, ◌+◌, ◌≤◌, true, Decides};
+ghost use Rattle.std.specs.Prelude.{◌≡◌, ℕ, ◌+◌, ◌≤◌, true, take, Decides};
 ghost use Rattle.board.specs.declared.pieces.Kind.TheVariants.{Rabbit};
 ghost use Rattle.board.specs.Standing.{Frozen};
 ghost use Rattle.rules.specs.Codes.{direction, back};
 ghost use Rattle.rules.specs.Room.{room};
 ghost use Rattle.rules.specs.Steps.{Step};
 ghost use Rattle.rules.specs.Asked.{AsksFor};
-ghost use Rattle.rules.specs.Checks.{square_checks, turn_checks};
+ghost use Rattle.rules.specs.Checks.{turn_checks};
 ghost use Rattle.rules.specs.Answers.{Answers};
 
 use super::HalfTurn;
@@ -35,7 +35,7 @@ pub(super) struct CallChecks {
 impl HalfTurn {
     /// What the code asks for, or the first hit of the checks up to that of the target.
     fn asked(self, code: StepCode, steps_made: bool) -> Result<Asked, Refusal>
-        ensures { Answers (square_checks self.board code.number (steps_made ≡ true)) (AsksFor self.board code.number) result }
+        ensures { Answers (take 4 (turn_checks self.side self.board code.number (steps_made ≡ true) ⊥ ⊥)) (AsksFor self.board code.number) result }
     {
         let from = code.square();
         let to = code.target().ok_or(Refusal::OffBoard)?;

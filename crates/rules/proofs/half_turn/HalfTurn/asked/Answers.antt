@@ -15,7 +15,7 @@ returns c =
     let asks =
     finds b c.args.code.number a c.target.result c.at.result c.at-2.result c.is_some.result c.square-from.ensures c.target.ensures
     c.in_ok-to.ensures.ok_part c.at.ensures c.in_ok-piece.ensures.ok_part c.at-2.ensures c.is_some.ensures c.if-is_some.false in
-    (found asks c.args.steps_made c.if-steps_made.false, asks)
+    (found asks c.args.self.side c.args.steps_made c.if-steps_made.false, asks)
 
 pub returns-then-is_some : goal.returns-then-is_some
 returns-then-is_some c =

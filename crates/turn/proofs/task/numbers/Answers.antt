@@ -1,14 +1,8 @@
-use Rattle.std.proofs.Common.{◌≡◌, ℕ, List, [], ◌∷◌, ◌++◌, vec_items, sym, subst, append_assoc, append-nil}
-use Rattle.std.proofs.lemmas.List.{map-append}
-use Rattle.rules.specs.declared.codes.StepCode.{StepCode}
-use Rattle.rules.specs.Codes.{numbers}
+use Rattle.std.proofs.Common.{[], ◌∷◌, vec_items, sym, subst, append_assoc, append-nil}
 use Rattle.text.specs.Numerals.{Numerals}
 use Rattle.text.specs.Fields.{to_come}
 use Rattle.text.proofs.Spelling.{first_spelled, spelled_first}
-use Rattle.turn.proofs.task.codes.Goals as goal
-
-numbers_push : (codes : List StepCode) (k : StepCode) (n : ℕ) (ns : List ℕ) → k.number ≡ n → numbers codes ++ (n ∷ ns) ≡ numbers (codes ++ (k ∷ [])) ++ ns
-numbers_push codes k n ns e = rw (map-append (λ (c : StepCode). c.number) codes (k ∷ []), append_assoc, e)
+use Rattle.turn.proofs.task.numbers.Goals as goal
 
 pub returns-in_default : goal.returns-in_default
 returns-in_default c ns h =
@@ -27,7 +21,7 @@ loop-field-preserved c =
       tt,
       tt,
       (λ ns h.
-          subst (Numerals (to_come c.args.fields)) (rw c.in_ok-push.ensures.items (numbers_push (vec_items c.loop-field.codes) c.from.result n ns c.from.ensures))
+          subst (Numerals (to_come c.args.fields)) (simp (c.in_ok-push.ensures.items, append_assoc))
           (c.loop-field.invariant.2 (n ∷ ns) (spelled_first left text others first n ns c.in-Some-number.ensures h))),
       (λ ns h.
           let m = c.loop-field.invariant.3 ns h
@@ -37,5 +31,5 @@ loop-field-preserved c =
 
 pub returns : goal.returns
 returns c =
-    subst (Numerals (to_come c.args.fields)) (append-nil (numbers (vec_items c.loop-field.codes)))
+    subst (Numerals (to_come c.args.fields)) (append-nil (vec_items c.loop-field.numbers))
     (c.loop-field.invariant.2 [] (subst (λ ts. Numerals ts []) (sym c.in-None.ensures.steps) tt))
