@@ -61,12 +61,12 @@ fn choices(rt: &HostRuntime) -> Result<Vec<Choice>> {
     words
         .as_slice()
         .chunks(2)
-        .map(|pair| -> Result<Choice> { Choice::try_from(pair) })
+        .map(Choice::try_from)
         .try_collect(heap)
 }
 
 /// So many nodes with no key.
-fn free<N: Default + Drop>(heap: Global, count: usize) -> Result<Vec<N>> {
+fn free_nodes<N: Default + Drop>(heap: Global, count: usize) -> Result<Vec<N>> {
     nodes(heap, count).map_err(|_| anyhow!(NO_MEMORY))
 }
 
@@ -79,29 +79,25 @@ fn write_tally<S: Store<Line>>(rt: &HostRuntime, store: &mut S, text: &[u8]) -> 
     Ok(())
 }
 
-fn run(rt: &HostRuntime) -> Result<()> {
+fn main(rt: HostRuntime) -> Result<()> {
     let heap = rt.alloc();
-    let choices = choices(rt)?;
+    let choices = choices(&rt)?;
     let mut text = Vec::new(heap);
     rt.stdin().read_to_end(&mut text)?;
     let text = text.as_slice();
     for &Choice { make, capacity } in &choices {
         match make {
             Make::Table => write_tally(
-                rt,
-                &mut Table::new(free(heap, capacity)?.as_mut_slice()),
+                &rt,
+                &mut Table::new(free_nodes(heap, capacity)?.as_mut_slice()),
                 text,
             )?,
             Make::Tree => write_tally(
-                rt,
-                &mut Tree::new(free(heap, capacity)?.as_mut_slice()),
+                &rt,
+                &mut Tree::new(free_nodes(heap, capacity)?.as_mut_slice()),
                 text,
             )?,
         }
     }
     Ok(())
-}
-
-fn main(rt: HostRuntime) -> Result<()> {
-    run(&rt)
 }
