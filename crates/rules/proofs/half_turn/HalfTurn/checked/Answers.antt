@@ -2,7 +2,7 @@ use Rattle.std.proofs.Common.{◌≡◌, true, subst}
 use Rattle.std.proofs.lemmas.Bool.{both_ways}
 use Rattle.std.proofs.lemmas.Bool.Decides.{not_from_Decides}
 use Rattle.board.specs.Standing.{Frozen}
-use Rattle.rules.proofs.Passing.{hit_on_squares, past, owned, unfrozen, forward}
+use Rattle.rules.proofs.Passing.{hit_on_squares, past, owned, unfrozen}
 use Rattle.rules.proofs.half_turn.HalfTurn.checked.Goals as goal
 
 pub returns-in_err-asked : goal.returns-in_err-asked
@@ -25,19 +25,3 @@ returns-then-goes_backward c =
     let x = c.goes_backward.ensures.0 c.if-goes_backward.true in
     past asks.0
     (both_ways c.args.call.no_push_or_pull c.if-call.false, (free, (c.in_ok-asked.asked.piece, owned asks.1 c.args.self.side x.0, x.1, x.2)))
-
-pub returns-then-call-2 : goal.returns-then-call-2
-returns-then-call-2 c =
-    let asks = c.in_ok-asked.ensures in
-    let free = unfrozen asks.1 c.args.self.side (not_from_Decides c.is_stuck.result c.is_stuck.ensures c.if-is_stuck.false) in
-    let ahead = forward asks.1 c.args.self.side (not_from_Decides c.goes_backward.result c.goes_backward.ensures c.if-goes_backward.false) in
-    past asks.0 (both_ways c.args.call.no_push_or_pull c.if-call.false, (free, (ahead, c.if-call-2.true)))
-
-pub returns : goal.returns
-returns c =
-    let asks = c.in_ok-asked.ensures in
-    let free = unfrozen asks.1 c.args.self.side (not_from_Decides c.is_stuck.result c.is_stuck.ensures c.if-is_stuck.false) in
-    let ahead = forward asks.1 c.args.self.side (not_from_Decides c.goes_backward.result c.goes_backward.ensures c.if-goes_backward.false) in (
-      past asks.0 (both_ways c.args.call.no_push_or_pull c.if-call.false, (free, (ahead, (both_ways c.args.call.unfinished_push c.if-call-2.false, tt)))),
-      asks.1,
-    )
