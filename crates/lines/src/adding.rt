@@ -1,5 +1,5 @@
 // Lines counted in a store.
-ghost use Rattle.std.specs.Prelude.{◌≡◌, IfOk};
+ghost use Rattle.std.specs.Prelude.{◌≡◌, Ok, IfOk, Decides};
 ghost use Rattle.lines.specs.Tallies.{TalliedAs};
 
 use crate::line::Line;
@@ -9,6 +9,7 @@ use store::{Refused, Store};
 use text::lines;
 
 /// Adds a line to the store, and answers the count that its key then has.
+#[tactic(auto, using(crate::proofs::Tallies::raised_kept))]
 pub fn add_line<S: Store<Line>>(store: &mut S, line: &[u8]) -> Result<u8, Refused>
     ensures { TalliedAs (S.Store.view store.old) (S.Store.view store.new) line.now result }
 {
@@ -17,9 +18,15 @@ pub fn add_line<S: Store<Line>>(store: &mut S, line: &[u8]) -> Result<u8, Refuse
     Ok(store.count(&key))
 }
 
+/// Whether a line that was added, or refused, is the first of its key.
+pub fn is_new(tallied: Result<u8, Refused>) -> bool
+    ensures { Decides result (tallied ≡ Ok 1) }
+{
+    tallied == Ok(1)
+}
+
 /// Clears the store, adds the lines of the text one after another, and writes what came of each. Answers how many
 /// keys are then held.
-#[tactic(auto, using(crate::proofs::Tallies::one_more, crate::proofs::Tallies::as_many))]
 pub fn tally<S: Store<Line>>(
     store: &mut S,
     text: &[u8],
@@ -31,16 +38,15 @@ pub fn tally<S: Store<Line>>(
     let room = store.capacity();
     let mut held = 0;
     for line in lines(text) {
-        match add_line(store, line) {
-            Ok(count) => {
-                if count == 1 {
-                    prove!(held < room);
-                    held += 1;
-                }
-                writeln!(out, "{count}")?;
-            }
-            Err(refused) => writeln!(out, "{refused}")?,
+        let tallied = add_line(store, line);
+        if is_new(tallied) {
+            prove!(held < room);
+            held += 1;
         }
+        match tallied {
+            Ok(count) => writeln!(out, "{count}"),
+            Err(refused) => writeln!(out, "{refused}"),
+        }?;
     }
     Ok(held)
 }

@@ -4,5 +4,5 @@
 mod adding;
 mod line;
 
-pub use adding::{add_line, tally};
+pub use adding::{add_line, is_new, tally};
 pub use line::Line;

@@ -4,6 +4,9 @@ use Rattle.std.proofs.lemmas.Bool.{cases_lt}
 use Rattle.std.proofs.lemmas.Bool.Decides.{nat_tests}
 use Rattle.store.specs.Probes.{place}
 
+pub place_below : (n h d : ℕ) → h < n → d < n → place n h d < n
+place_below n h d p q = grind (arith, nat_tests)
+
 pub place_on : (n h d i : ℕ) → h < n → d < n → i ≡ place n h d → i < n → (i + 1 ≡ n → ⊥) → i + 1 ≡ place n h (d + 1)
 place_on n h d i p q e l ne = grind (arith, nat_tests)
 

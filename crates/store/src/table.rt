@@ -1,5 +1,5 @@
 // A hash table with open addressing, over nodes that the caller lends.
-ghost use Rattle.std.specs.Prelude.{length};
+ghost use Rattle.std.specs.Prelude.{◌≡◌, length};
 ghost use Rattle.store.specs.Views.{Empty};
 ghost use Rattle.store.specs.Cells.{held_in, seen};
 ghost use Rattle.store.specs.Probes.{Sound, Finds};
@@ -41,7 +41,8 @@ impl<'a, K: SpreadKey> Model for Table<'a, K> {
 impl<'a, K: SpreadKey + Drop> Table<'a, K> {
     // A table with no key. The nodes may be in any state.
     pub fn new(nodes: &'a mut [Slot<K>]) -> Table<'a, K>
-        ensures { Empty (length nodes.old) (seen K.Key.equals result) }
+        ensures sound { Sound K.Key.equals K.SpreadKey.spreads result (held_in result) }
+        ensures empty { Empty (length nodes.old) (seen K.Key.equals result) }
     {
         nodes.fill_with(|| None);
         Table {
@@ -53,6 +54,7 @@ impl<'a, K: SpreadKey + Drop> Table<'a, K> {
 }
 
 impl<K: SpreadKey> Table<'_, K> {
+    #[tactic(auto, using(crate::proofs::Ring::place_below))]
     fn find(&self, key: &K) -> Found<usize>
         ensures sound { Sound K.Key.equals K.SpreadKey.spreads self.now (held_in self.now) }
         ensures finds { Finds K.Key.equals K.SpreadKey.spreads (length self.now) self.now key.now result }
@@ -88,7 +90,11 @@ impl<K: SpreadKey> Table<'_, K> {
 impl<'a, K: SpreadKey + Drop> Store<K> for Table<'a, K> {
     ghost view = { λ cs. seen K.Key.equals cs };
 
-    fn capacity(&self) -> usize {
+    // Clauses see the cells alone; this call tells what they keep, at any time.
+    fn capacity(&self) -> usize
+        ensures room { result ≡ (seen K.Key.equals self.now).capacity }
+        ensures sound { Sound K.Key.equals K.SpreadKey.spreads self.now (held_in self.now) }
+    {
         self.nodes.len()
     }
 

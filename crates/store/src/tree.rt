@@ -63,7 +63,8 @@ impl<'a, K: OrderedKey> Model for Tree<'a, K> {
 impl<'a, K: OrderedKey + Drop> Tree<'a, K> {
     // A tree with no key. The nodes may be in any state.
     pub fn new(nodes: &'a mut [Node<K>]) -> Tree<'a, K>
-        ensures { Empty (length nodes.old) (seen K.Key.equals (cells result.1)) }
+        ensures grown { Grown K.Key.equals K.OrderedKey.orders result.1 (follow result.1 result.0) (held_in (cells result.1)) }
+        ensures empty { Empty (length nodes.old) (seen K.Key.equals (cells result.1)) }
     {
         for node in nodes.iter_mut() {
             node.entry = None;
@@ -131,7 +132,11 @@ impl<K: OrderedKey> Tree<'_, K> {
 impl<'a, K: OrderedKey + Drop> Store<K> for Tree<'a, K> {
     ghost view = { λ t. seen K.Key.equals (cells t.1) };
 
-    fn capacity(&self) -> usize {
+    // Clauses see the root and the nodes alone; this call tells what they keep, at any time.
+    fn capacity(&self) -> usize
+        ensures room { result ≡ (seen K.Key.equals (cells self.now.1)).capacity }
+        ensures grown { Grown K.Key.equals K.OrderedKey.orders self.now.1 (follow self.now.1 self.now.0) (held_in (cells self.now.1)) }
+    {
         self.nodes.len()
     }
 

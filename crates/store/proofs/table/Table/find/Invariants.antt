@@ -4,5 +4,5 @@ use Rattle.store.proofs.table.Table.find.Given as goal
 
 abbrev pub invariant-loop : goal.invariant-loop
 invariant-loop g l =
-    (l.i < length l.nodes) × (l.home < length l.nodes) × (l.i ≡ place (length l.nodes) l.home l.counter)
+    (l.home < length l.nodes) × (l.i ≡ place (length l.nodes) l.home l.counter)
     × Passed g.K.Key.equals (length l.nodes) (cells l.self-inside.generation l.nodes) l.key l.home l.counter

@@ -1,4 +1,4 @@
-use Rattle.std.proofs.Common.{◌≡◌, ◌+◌, ◌<◌, ◌≤◌, true, false, length, get_or, rules, Some, None, sym, refl, ap, ◌∙◌, subst, arith}
+use Rattle.std.proofs.Common.{◌≡◌, ◌+◌, ◌<◌, ◌≤◌, true, false, length, get_or, rules, Some, None, sym, ap, ◌∙◌, subst, arith}
 use Rattle.store.specs.Cells.{is_held, at}
 use Rattle.store.specs.Trees.{cells, follow, walk, Comes, Passes, taken, blank}
 use Rattle.store.proofs.Trees.{at_entry, past_free, turns_by, walk_more}
@@ -46,19 +46,6 @@ returns-in_default-entry-clause-seeks g c =
       nothing = subst (λ j. taken xs j ≡ false) (ap (follow xs) (sym c.in-Some.is) ∙ inv.0) (ap is_held free);
       passed = inv.2;
       comes = inv.1;
-    })
-
-pub returns-in-Equal-clause-seeks : goal.returns-in-Equal-clause-seeks
-returns-in-Equal-clause-seeks g c =
-    let xs = c.self.inside.nodes.now in
-    let l : c.in-Some.i < length xs = search rules in
-    let node : c.in-Some-get.node.now ≡ get_or xs c.in-Some.i blank = search rules in
-    rw (← c.self.view_is)
-    (record {
-      inside = l;
-      found = c.in-Some-entry.entry.key;
-      there = at_entry xs c.in-Some.i blank l ∙ ap (λ n. n.entry) (sym node) ∙ c.in-Some-entry.is;
-      same = g.met.K.Key.symmetric c.args.key.now c.in-Some-entry.entry.key (c.in-Equal.ensures.tie refl);
     })
 
 pub loop-preserved : goal.loop-preserved

@@ -6,7 +6,7 @@ use Rattle.store.specs.Trees.{cells, follow, Ends, Spares}
 use Rattle.store.specs.declared.store.Refused.TheVariants.{Full, Saturated}
 use Rattle.store.proofs.Cells.{kept_same, absent, met_count, held_all}
 use Rattle.store.proofs.Trees.{ended, lost, lost_full}
-use Rattle.store.proofs.Growth.{room, add_root, add_left, add_right, counted_in, not_free}
+use Rattle.store.proofs.Growth.{add_root, add_left, add_right, counted_in, not_free}
 use Rattle.store.proofs.tree.TreeStore.add.Goals as goal
 use Rattle.store.proofs.tree.TreeStore.add.Goals.{in-Some, in_default, in-Root, in-Left, in-Right}
 
@@ -73,17 +73,6 @@ offset_bounds-self-inside-i-in-Open g c =
     let free : c.in_ok-i-in-Open.i < length c.args.self.now.1 = search rules in
     let l : c.in_ok-i-in-Open.i < length c.self.inside.nodes.now = omega (arith, free, ap (λ t. length t.1) c.self.view_is) in
     search rules
-
-pub overflow_add-self-in-Open : goal.overflow_add-self-in-Open
-overflow_add-self-in-Open g c =
-    let k = g.met.K.Key in
-    let i = c.in_ok-i-in-Open.i in
-    let some : c.spare.result ≡ Some i = search rules in
-    let spare : Spares c.self.inside.nodes.now (Some i) = subst (λ t. Spares t.1 (Some i)) (sym c.self.view_is) (subst (Spares c.args.self.now.1) some c.spare.ensures) in
-    omega (
-      arith,
-      room g.K.Key.equals g.K.OrderedKey.orders k.reflexive k.symmetric k.transitive c.self.inside.nodes.now c.self.inside.root c.self.inside.held c.self.invariant.0 c.args.key i spare.0 spare.1,
-    )
 
 pub offset_bounds-self-inside-p : goal.offset_bounds-self-inside-p
 offset_bounds-self-inside-p g c =
