@@ -77,18 +77,6 @@ module _ {K : Type 0} (eq : K → K → Bool) where
 
   -- a place that a probe has come to
   module _ (spread : K → ℕ) (n : ℕ) (cs : List (Cell K)) (q : K) (s d i : ℕ) (e : s ≡ spread q) (there : i ≡ place n (s % n) d) (old : Passed eq n cs q (s % n) d) where
-    pub opens : i < n → d < n → at cs i ≡ None → ((y : K) → eq q y ≡ true → spread y ≡ s) → Opens eq spread n cs q i
-    opens il dl is like =
-        record {
-          inside = il;
-          steps = d;
-          within = dl;
-          there = there ∙ ap (λ t. place n (t % n) d) e;
-          ready = ap is_free is;
-          passed = subst (λ t. Passed eq n cs q (t % n) d) e old;
-          alike = λ y l. like y l ∙ e;
-        }
-
     pub passed_more : (k : K) (c : ℕ) → at cs i ≡ occupied k c → eq k q ≡ false → Passed eq n cs q (s % n) (d + 1)
     passed_more k c is ne =
         let P : Cell K → Type 0 = λ t. (is_free t ≡ false) × (holds eq q t ≡ false) in

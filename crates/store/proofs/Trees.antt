@@ -11,7 +11,7 @@ use Rattle.store.specs.declared.store.Found.{Found}
 use Rattle.store.specs.declared.store.Found.TheVariants.{At, Open, Nowhere}
 use Rattle.store.specs.declared.tree.Node.{Node}
 use Rattle.store.specs.declared.tree.Spot.{Spot}
-use Rattle.store.proofs.Cells.{occupied, in_range, after, holds_held, absent, met_count, at_most, cleared}
+use Rattle.store.proofs.Cells.{occupied, after, holds_held, absent, met_count, at_most, cleared}
 
 not_equal : (s : Bool) → way s ≡ Equal → ⊥
 not_equal true e = let z : ◌≡◌ {A = ℕ} 0 1 = cc in omega arith
@@ -23,9 +23,6 @@ module _ {K : Type 0} where
 
   pub past_free : (xs : List (Node K)) (i : ℕ) → length xs ≤ i → taken xs i ≡ false
   past_free xs i l = ap is_held (get_or_past (cells xs) i None (omega (arith, length-map xs (λ x. x.entry))))
-
-  pub taken_in : (xs : List (Node K)) (i : ℕ) → taken xs i ≡ true → i < length xs
-  taken_in xs i t = omega (arith, in_range (cells xs) i t, length-map xs (λ x. x.entry))
 
   pub free_more : (xs : List (Node K)) (i : ℕ) (u : Node K) → u.entry ≡ None → i < length xs → ((k : ℕ) → k < i → taken xs k ≡ false) → (k : ℕ) → k < i + 1 → taken (set xs i u) k ≡ false
   free_more xs i u e il old k l =
