@@ -1,9 +1,10 @@
 -- Walks in a tree, and what an addition does to them.
-use Rattle.std.proofs.Common.{◌≡◌, ℕ, zero, suc, ◌+◌, ◌-◌, ◌<◌, ◌≤◌, Bool, true, false, cond, ◌⊎◌, List, length, get_or, set, sum_by, position, drop, ltb, not, Some, None, Option, Ordering, Less, Equal, Greater, sym, refl, ap, ◌∙◌, subst, inl, inr, ⊎_elim, add-zero, add-suc, add-one, arith, below_more}
-use Rattle.std.proofs.lemmas.List.{get_or_past, get_or-map, get_or-drop, drop-map, length-drop, length-map, map-set}
+use Rattle.std.proofs.Common.{◌≡◌, ℕ, zero, suc, ◌+◌, ◌-◌, ◌<◌, ◌≤◌, Bool, true, false, cond, ◌⊎◌, List, length, get_or, set, sum_by, position, take, drop, ltb, not, Some, None, Option, Ordering, Less, Equal, Greater, sym, refl, ap, ◌∙◌, subst, inl, inr, ⊎_elim, add-zero, add-suc, add-one, arith, below_more}
+use Rattle.std.proofs.lemmas.List.{get_or_past, get_or-map, get_or-drop, drop-map, length-drop, length-map, map-set, take_all}
 use Rattle.std.proofs.lemmas.Bool.{cases_lt, cases_Bool, cond-true, cond-false, both_ways, false_from_ne_true, lt-ltb, le-ltb}
 use Rattle.std.proofs.lemmas.List.Sums.{prefix_len_passes, prefix_len_stops}
 use Rattle.std.specs.List.{prefix_len}
+use Rattle.std.specs.Prelude.{MatchOption}
 use Rattle.store.specs.Views.{Empty, counted}
 use Rattle.store.specs.Cells.{Cell, is_held, holds, share, at, seen}
 use Rattle.store.specs.Trees.{cells, taken, blank, follow, to, way, turn, onward, next, walk, Goes, Turns, Passes, Under, Seeks, Spares, Grown}
@@ -31,7 +32,7 @@ module _ {K : Type 0} where
       (ap is_held e) (λ ne. old k (omega arith)))
 
   -- the first node with no key
-  pub spares_first : (xs : List (Node K)) → Spares xs (position (λ x. not (is_held x.entry)) xs)
+  spares_first : (xs : List (Node K)) → Spares xs (position (λ x. not (is_held x.entry)) xs)
   spares_first xs =
       let held : Node K → Bool = λ x. not (not (is_held x.entry)) in
       let n : ℕ = prefix_len held xs in
@@ -42,9 +43,20 @@ module _ {K : Type 0} where
       (λ (l : length xs ≤ n). subst (Spares xs) (sym (cond-false (ltb n (length xs)) (Some n) None (le-ltb n (length xs) l))) (λ i il. key i il ∙ prefix_len_passes held xs i blank (omega arith)))
       (cases_lt n (length xs))
 
-  pub spares_on : (xs : List (Node K)) (n d : ℕ) → Spares (drop n xs) (Some d) → Spares xs (Some (n + d))
+  spares_on : (xs : List (Node K)) (n d : ℕ) → Spares (drop n xs) (Some d) → Spares xs (Some (n + d))
   spares_on xs n d r =
       (omega (arith, length-drop n xs, r.0), ap is_held (sym (get_or-drop n (cells xs) d None) ∙ ap (λ cs. at cs d) (drop-map (λ x. x.entry) n xs)) ∙ r.1)
+
+  -- the first node with no key from n on, or else the first
+  pub spares_else : (xs : List (Node K)) (n : ℕ) (r m e : Option ℕ) → r ≡ position (λ x. not (is_held x.entry)) (take (length xs - n) (drop n xs))
+      → MatchOption r (m ≡ None) (λ d. m ≡ Some (n + d)) → MatchOption m (e ≡ position (λ x. not (is_held x.entry)) xs) (λ d. e ≡ Some d) → Spares xs e
+  spares_else xs n None m e f on whole =
+      subst (Spares xs) (sym (subst (λ t. MatchOption t (e ≡ position (λ x. not (is_held x.entry)) xs) (λ d. e ≡ Some d)) on whole)) (spares_first xs)
+  spares_else xs n (Some d) m e f on whole =
+      let first : Some d ≡ position (λ x. not (is_held x.entry)) (drop n xs) =
+      f ∙ ap (position (λ x. not (is_held x.entry))) (take_all _ (drop n xs) (omega (arith, length-drop n xs))) in
+      let is : e ≡ Some (n + d) = subst (λ t. MatchOption t (e ≡ position (λ x. not (is_held x.entry)) xs) (λ j. e ≡ Some j)) on whole in
+      subst (Spares xs) (sym is) (spares_on xs n d (subst (Spares (drop n xs)) (sym first) (spares_first (drop n xs))))
 
   -- a link leads to the same place in as many nodes
   pub follow_like : (xs ys : List (Node K)) (l : Option ℕ) → length ys ≡ length xs → follow ys l ≡ follow xs l

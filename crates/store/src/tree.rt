@@ -122,10 +122,10 @@ impl<K: OrderedKey> Tree<'_, K> {
     fn spare(&self) -> Option<usize>
         ensures { Spares self.now.1 result }
     {
-        match first_free(&self.nodes[self.next..]) {
-            Some(d) => Some(self.next + d),
-            None => first_free(self.nodes),
-        }
+        let next = self.next;
+        first_free(&self.nodes[next..])
+            .map(|d| next + d)
+            .or_else(|| first_free(self.nodes))
     }
 }
 
