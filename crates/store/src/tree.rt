@@ -1,8 +1,8 @@
 // A binary search tree, over nodes that the caller lends.
-ghost use Rattle.std.specs.Prelude.{◌≡◌, length, None, is_some, not, position};
+ghost use Rattle.std.specs.Prelude.{◌≡◌, ℕ, ◌<◌, length, None, false, is_some, not, position};
 ghost use Rattle.store.specs.Views.{Empty};
 ghost use Rattle.store.specs.Cells.{held_in, seen};
-ghost use Rattle.store.specs.Trees.{cells, follow, Grown, Seeks, Spares};
+ghost use Rattle.store.specs.Trees.{cells, taken, follow, Grown, Seeks, Spares};
 
 use crate::store::{Entry, Found, Refused, Store};
 use keys::{Key, OrderedKey};
@@ -60,15 +60,23 @@ impl<'a, K: OrderedKey> Model for Tree<'a, K> {
     ghost invariant = { λ t. Grown K.Key.equals K.OrderedKey.orders t.nodes.now (follow t.nodes.now t.root) t.held × (t.next ≤ length t.nodes.now) };
 }
 
+// Frees the nodes, with whatever links they have.
+fn vacate<K: Drop>(nodes: &mut [Node<K>])
+    ensures size { length nodes.new ≡ length nodes.old }
+    ensures free { (i : ℕ) → i < length nodes.new → taken nodes.new i ≡ false }
+{
+    for node in nodes.iter_mut() {
+        node.entry = None;
+    }
+}
+
 impl<'a, K: OrderedKey + Drop> Tree<'a, K> {
     // A tree with no key. The nodes may be in any state.
     pub fn new(nodes: &'a mut [Node<K>]) -> Tree<'a, K>
         ensures grown { Grown K.Key.equals K.OrderedKey.orders result.1 (follow result.1 result.0) (held_in (cells result.1)) }
         ensures empty { Empty (length nodes.old) (seen K.Key.equals (cells result.1)) }
     {
-        for node in nodes.iter_mut() {
-            node.entry = None;
-        }
+        vacate(nodes);
         Tree {
             nodes,
             root: None,
@@ -173,9 +181,7 @@ impl<'a, K: OrderedKey + Drop> Store<K> for Tree<'a, K> {
     }
 
     fn clear(&mut self) {
-        for node in self.nodes.iter_mut() {
-            node.entry = None;
-        }
+        vacate(self.nodes);
         self.root = None;
         self.held = 0;
         self.next = 0;
