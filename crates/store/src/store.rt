@@ -1,6 +1,6 @@
 // What every store of keys promises.
 ghost use Rattle.std.specs.Prelude.{◌≡◌, Some};
-ghost use Rattle.store.specs.Views.{View, Tells, Adds, Empty, counted, refusal, refusal_name};
+ghost use Rattle.store.specs.Views.{View, Tells, Adds, Raises, Empty, counted, refusal, refusal_name};
 
 use keys::Key;
 use std::error::Error;
@@ -11,6 +11,16 @@ use std::fmt;
 pub struct Entry<K> {
     pub key: K,
     pub count: u8,
+}
+
+impl<K> Entry<K> {
+    // One more of the key, unless its count is 255.
+    pub(crate) fn raise(&mut self) -> Result<(), Refused>
+        ensures { Raises self.old self.new result }
+    {
+        self.count = self.count.checked_add(1).ok_or(Refused::Saturated)?;
+        Ok(())
+    }
 }
 
 // What a search for a key comes to: the place that holds it and its count, where it can be put, or neither.

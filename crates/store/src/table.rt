@@ -104,13 +104,7 @@ impl<'a, K: SpreadKey + Drop> Store<K> for Table<'a, K> {
 
     fn add(&mut self, key: K) -> Result<(), Refused> {
         match self.find(&key) {
-            Found::At(i, count) => {
-                let more = count.checked_add(1).ok_or(Refused::Saturated)?;
-                if let Some(held) = &mut self.nodes[i] {
-                    held.entry.count = more;
-                }
-                Ok(())
-            }
+            Found::At(i, _) => self.nodes[i].as_mut().unwrap().entry.raise(),
             Found::Open(i) => {
                 self.nodes[i] = Some(Held {
                     entry: Entry { key, count: 1 },

@@ -154,13 +154,7 @@ impl<'a, K: OrderedKey + Drop> Store<K> for Tree<'a, K> {
 
     fn add(&mut self, key: K) -> Result<(), Refused> {
         match self.seek(&key) {
-            Found::At(i, count) => {
-                let more = count.checked_add(1).ok_or(Refused::Saturated)?;
-                if let Some(entry) = &mut self.nodes[i].entry {
-                    entry.count = more;
-                }
-                Ok(())
-            }
+            Found::At(i, _) => self.nodes[i].entry.as_mut().unwrap().raise(),
             Found::Open(spot) => {
                 let i = self.spare().ok_or(Refused::Full)?;
                 self.nodes[i] = Node {
