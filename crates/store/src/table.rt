@@ -1,8 +1,8 @@
 // A hash table with open addressing, over nodes that the caller lends.
-ghost use Rattle.std.specs.Prelude.{◌≡◌, length};
+ghost use Rattle.std.specs.Prelude.{◌≡◌, ◌<◌, length};
 ghost use Rattle.store.specs.Views.{Empty};
 ghost use Rattle.store.specs.Cells.{held_in, seen};
-ghost use Rattle.store.specs.Probes.{Sound, Finds};
+ghost use Rattle.store.specs.Probes.{place, Sound, Finds};
 
 use crate::store::{Entry, Found, Refused, Store};
 use keys::{Key, SpreadKey};
@@ -53,8 +53,23 @@ impl<'a, K: SpreadKey + Drop> Table<'a, K> {
     }
 }
 
+// The place that is `d` steps after `home`, in a ring of `n`.
+#[tactic(auto, using(std::proofs::lemmas::Bool::Decides::nat_tests))]
+fn place(n: usize, home: usize, d: usize) -> usize
+    requires start { home < n }
+    requires step { d < n }
+    ensures value { result ≡ place n home d }
+    ensures below { result < n }
+{
+    let to_end = n - home;
+    if d < to_end {
+        home + d
+    } else {
+        d - to_end
+    }
+}
+
 impl<K: SpreadKey> Table<'_, K> {
-    #[tactic(auto, using(crate::proofs::Ring::place_below))]
     fn find(&self, key: &K) -> Found<usize>
         ensures sound { Sound K.Key.equals K.SpreadKey.spreads self.now (held_in self.now) }
         ensures finds { Finds K.Key.equals K.SpreadKey.spreads (length self.now) self.now key.now result }
@@ -65,9 +80,8 @@ impl<K: SpreadKey> Table<'_, K> {
             return Found::Nowhere;
         }
         let home = (key.spread() % n as u64) as usize;
-        // The place is counted by hand: over `(home..n).chain(0..home)` the proof would follow the chain's state.
-        let mut i = home;
-        for _ in 0..n {
+        for d in 0..n {
+            let i = place(n, home, d);
             match &nodes[i] {
                 Some(held) if held.generation == self.generation => {
                     if held.entry.key.same(key) {
@@ -77,10 +91,6 @@ impl<K: SpreadKey> Table<'_, K> {
                 _ => {
                     return Found::Open(i);
                 }
-            }
-            i += 1;
-            if i == n {
-                i = 0;
             }
         }
         Found::Nowhere
