@@ -7,7 +7,7 @@ use Rattle.std.specs.List.{prefix_len}
 use Rattle.std.specs.Prelude.{MatchOption}
 use Rattle.store.specs.Views.{Empty, counted}
 use Rattle.store.specs.Cells.{Cell, is_held, holds, share, at, seen}
-use Rattle.store.specs.Trees.{cells, taken, blank, follow, to, way, turn, onward, next, walk, Goes, Turns, Passes, Under, Seeks, Spares, Grown}
+use Rattle.store.specs.Trees.{cells, taken, blank, follow, to, way, turn, onward, next, walk, Goes, Turns, Passes, Under, Comes, Ends, Seeks, Spares, Grown}
 use Rattle.store.specs.declared.store.Found.{Found}
 use Rattle.store.specs.declared.store.Found.TheVariants.{At, Open, Nowhere}
 use Rattle.store.specs.declared.tree.Node.{Node}
@@ -122,6 +122,12 @@ module _ {K : Type 0} (eq : K → K → Bool) (ord : K → K → Ordering) (xs :
         goes = λ y e. subst (λ s. Goes ord y s (way b)) (sym is) (alike y e);
         other = ap (holds eq q) is ∙ false_from_ne_true (eq k q) (λ t. not_equal b (tied (sym' k q t)));
       }
+
+  -- a walk that has come to a link to no key
+  pub ends_at : (root : ℕ) (q : K) (d : ℕ) (l : Option ℕ) (s : Spot) → d < length xs
+      → (follow xs l ≡ walk ord xs root q d) × Comes eq ord xs root q d s × Passes eq ord xs root q d → taken xs (follow xs l) ≡ false → Ends eq ord xs root q s
+  ends_at root q d l s within (here, comes, passed) free =
+      record { steps = d; within = within; nothing = subst (λ i. taken xs i ≡ false) here free; passed = passed; comes = comes }
 
   module _ (refl' : (x : K) → eq x x ≡ true) (root : ℕ) (q : K) where
     -- one step more
