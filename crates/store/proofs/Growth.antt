@@ -2,7 +2,7 @@
 use Rattle.std.proofs.Common.{◌≡◌, ℕ, zero, suc, ◌+◌, ◌<◌, ◌≤◌, Bool, true, false, cond, eqb, ◌⊎◌, List, length, get_or, set, Some, None, Option, Ok, Err, Result, Ordering, Equal, sym, refl, ap, ◌∙◌, subst, inl, inr, ⊎_elim, arith}
 use Rattle.std.proofs.lemmas.List.{get_or_default, get_or-set_same, get_or-set_other, get_or-map, length-map, length-set, map-set, set-get_or}
 use Rattle.std.proofs.lemmas.Bool.{cases_eq, both_ways, cond-true, cond-false, eq-eqb, ne_eqb}
-use Rattle.std.proofs.lemmas.Option.{none-some, same_Some}
+use Rattle.std.proofs.lemmas.Option.{same_Some}
 use Rattle.store.specs.Views.{Adds, Raises, Raised}
 use Rattle.store.specs.Cells.{Cell, is_held, holds, at, seen, Holding, Meets}
 use Rattle.store.specs.Trees.{cells, taken, blank, follow, link, to, way, onward, next, walk, Goes, Passes, Under, Ends, Grown}
@@ -346,9 +346,9 @@ module _ {K : Type 0} (eq : K → K → Bool) (ord : K → K → Ordering) (refl
         | Ok u ↦ λ v.
             subst (λ y. Answers {X = X} k (set xs i (with_entry (Some y))) (Ok u)) (sym (v.1 ∙ ap (λ y. record { key = y.key; count = y.count + 1 }) same)) (counted k i c x m (omega (arith, v.0, count)))
         | Err u ↦ elim u as (λ y. Raises {X = X} e t (Err y) → Answers {X = X} k (set xs i (with_entry (Some t))) (Err y)) [
-            | Full ↦ λ v. absurd v
-            | Saturated ↦ λ v.
-                let old : set xs i (with_entry (Some t)) ≡ xs = ap (λ y. set xs i (with_entry (Some y))) v.1 ∙ ap (λ y. set xs i (with_entry y)) (sym is) ∙ set-get_or xs i x in
-                subst (λ ys. Answers {X = X} k ys (Err Saturated)) (sym old) (ok, refl, (met_count eq (cells xs) h ok.holding (length xs) k i c m ∙ sym count ∙ v.0, kept_same _))
-          ]
+          | Full ↦ λ v. absurd v
+          | Saturated ↦ λ v.
+              let old : set xs i (with_entry (Some t)) ≡ xs = ap (λ y. set xs i (with_entry (Some y))) v.1 ∙ ap (λ y. set xs i (with_entry y)) (sym is) ∙ set-get_or xs i x in
+              subst (λ ys. Answers {X = X} k ys (Err Saturated)) (sym old) (ok, refl, (met_count eq (cells xs) h ok.holding (length xs) k i c m ∙ sym count ∙ v.0, kept_same _))
+        ]
       ] up

@@ -227,11 +227,11 @@ module _ {K : Type 0} (eq : K → K → Bool) (spread : K → ℕ) (sym' : (x y 
             subst (λ y. Answers {X = X} (record { entry = y; generation = s.generation }) (Ok x)) (sym (u.1 ∙ ap (λ e. record { key = e.key; count = e.count + 1 }) now.1))
             (subst (λ g'. Answers {X = X} (record { entry = record { key = m.found; count = c + 1 }; generation = g' }) (Ok x)) (sym now.0) (raised c m (omega (arith, u.0, count))))
         | Err e ↦ elim e as (λ v. Raises {X = X} s.entry t (Err v) → Answers {X = X} (record { entry = t; generation = s.generation }) (Err v)) [
-            | Full ↦ λ u. absurd u
-            | Saturated ↦ λ u.
-                let same : set xs i (Some (record { entry = t; generation = s.generation })) ≡ xs =
-                ap (λ y. set xs i (Some (record { entry = y; generation = s.generation }))) u.1 ∙ ap (set xs i) (sym is) ∙ set-get_or xs i r in
-                subst (λ ys. (Marked g ys × Sound eq spread (cells g ys) h) × Adds {X = X} eq (seen eq cs) (seen eq (cells g ys)) k (Err Saturated)) (sym same)
-                (inv, (met_count eq cs h inv.1.holding (length cs) k i c m ∙ sym count ∙ u.0, kept_same _))
-          ]
+          | Full ↦ λ u. absurd u
+          | Saturated ↦ λ u.
+              let same : set xs i (Some (record { entry = t; generation = s.generation })) ≡ xs =
+              ap (λ y. set xs i (Some (record { entry = y; generation = s.generation }))) u.1 ∙ ap (set xs i) (sym is) ∙ set-get_or xs i r in
+              subst (λ ys. (Marked g ys × Sound eq spread (cells g ys) h) × Adds {X = X} eq (seen eq cs) (seen eq (cells g ys)) k (Err Saturated)) (sym same)
+              (inv, (met_count eq cs h inv.1.holding (length cs) k i c m ∙ sym count ∙ u.0, kept_same _))
+        ]
       ] up

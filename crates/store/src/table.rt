@@ -8,17 +8,17 @@ use crate::store::{Entry, Found, Refused, Store};
 use keys::{Key, SpreadKey};
 use std::marker::Model;
 
-// A key with its count, and the generation that it was added in.
+/// A key with its count, and the generation that it was added in.
 #[derive(Drop)]
 pub struct Held<K> {
     pub entry: Entry<K>,
     pub generation: u32,
 }
 
-// A node of a table.
+/// A node of a table.
 pub type Slot<K> = Option<Held<K>>;
 
-// The nodes of earlier generations count as free. A clause sees what each node stands for.
+/// A hash table over lent nodes. Those of earlier generations count as free. A clause sees what each node stands for.
 #[derive(Drop)]
 pub struct Table<'a, K: SpreadKey> {
     nodes: &'a mut [Slot<K>],
@@ -39,7 +39,7 @@ impl<'a, K: SpreadKey> Model for Table<'a, K> {
 }
 
 impl<'a, K: SpreadKey + Drop> Table<'a, K> {
-    // A table with no key. The nodes may be in any state.
+    /// A table with no key. The nodes may be in any state.
     pub fn new(nodes: &'a mut [Slot<K>]) -> Table<'a, K>
         ensures sound { Sound K.Key.equals K.SpreadKey.spreads result (held_in result) }
         ensures empty { Empty (length nodes.old) (seen K.Key.equals result) }
@@ -62,11 +62,7 @@ fn place(n: usize, home: usize, d: usize) -> usize
     ensures below { result < n }
 {
     let to_end = n - home;
-    if d < to_end {
-        home + d
-    } else {
-        d - to_end
-    }
+    if d < to_end { home + d } else { d - to_end }
 }
 
 impl<K: SpreadKey> Table<'_, K> {

@@ -9,7 +9,7 @@ use keys::{Key, OrderedKey};
 use std::cmp::Ordering;
 use std::marker::Model;
 
-// A node of a tree: a key with its count, if any, and the nodes below it, the lesser keys left and the greater right.
+/// A node of a tree: a key with its count, if any, and the nodes below it, the lesser keys left and the greater right.
 // The links come first, since a walk reads them and the first words of a key from one line of the cache.
 #[derive(Drop)]
 pub struct Node<K> {
@@ -39,7 +39,7 @@ enum Spot {
     Right(usize),
 }
 
-// The next free node is looked for from `next` on. A clause sees the root and the nodes.
+/// A search tree over lent nodes. The next free node is looked for from `next` on. A clause sees the root and the nodes.
 #[derive(Drop)]
 pub struct Tree<'a, K: OrderedKey> {
     nodes: &'a mut [Node<K>],
@@ -71,7 +71,7 @@ fn vacate<K: Drop>(nodes: &mut [Node<K>])
 }
 
 impl<'a, K: OrderedKey + Drop> Tree<'a, K> {
-    // A tree with no key. The nodes may be in any state.
+    /// A tree with no key. The nodes may be in any state.
     pub fn new(nodes: &'a mut [Node<K>]) -> Tree<'a, K>
         ensures grown { Grown K.Key.equals K.OrderedKey.orders result.1 (follow result.1 result.0) (held_in (cells result.1)) }
         ensures empty { Empty (length nodes.old) (seen K.Key.equals (cells result.1)) }

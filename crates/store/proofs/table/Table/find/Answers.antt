@@ -1,4 +1,4 @@
-use Rattle.std.proofs.Common.{◌≡◌, Some, length, sym, ap, ◌∙◌}
+use Rattle.std.proofs.Common.{◌≡◌, Some, sym, ap, ◌∙◌}
 use Rattle.store.specs.Cells.{at}
 use Rattle.store.specs.Probes.{cell, cells}
 use Rattle.store.proofs.Probes.{at_cell, cell_now, passed_more}
