@@ -4,9 +4,6 @@ use Rattle.std.proofs.lemmas.Bool.{cases_lt}
 use Rattle.std.proofs.lemmas.Bool.Decides.{nat_tests}
 use Rattle.store.specs.Probes.{place}
 
-pub place_below : (n h d : ℕ) → h < n → d < n → place n h d < n
-place_below n h d p q = grind (arith, nat_tests)
-
 pub place_once : (n h d e : ℕ) → h < n → d < n → e < n → place n h d ≡ place n h e → d ≡ e
 place_once n h d e p q r s = grind (arith, nat_tests)
 

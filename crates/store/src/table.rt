@@ -54,7 +54,6 @@ impl<'a, K: SpreadKey + Drop> Table<'a, K> {
 }
 
 // The place that is `d` steps after `home`, in a ring of `n`.
-#[tactic(auto, using(std::proofs::lemmas::Bool::Decides::nat_tests))]
 fn place(n: usize, home: usize, d: usize) -> usize
     requires start { home < n }
     requires step { d < n }

@@ -39,7 +39,8 @@ enum Spot {
     Right(usize),
 }
 
-/// A search tree over lent nodes. The next free node is looked for from `next` on. A clause sees the root and the nodes.
+/// A search tree over lent nodes. A clause sees the root and the nodes.
+// The next free node is looked for from `next` on.
 #[derive(Drop)]
 pub struct Tree<'a, K: OrderedKey> {
     nodes: &'a mut [Node<K>],
