@@ -1,15 +1,17 @@
 -- What an addition does to a tree.
-use Rattle.std.proofs.Common.{◌≡◌, ℕ, zero, suc, ◌+◌, ◌<◌, ◌≤◌, Bool, true, false, cond, eqb, ◌⊎◌, List, length, get_or, set, Some, None, Option, Ordering, Equal, sym, refl, ap, ◌∙◌, subst, inl, inr, ⊎_elim, arith}
+use Rattle.std.proofs.Common.{◌≡◌, ℕ, zero, suc, ◌+◌, ◌<◌, ◌≤◌, Bool, true, false, cond, eqb, ◌⊎◌, List, length, get_or, set, Some, None, Option, Ok, Err, Result, Ordering, Equal, sym, refl, ap, ◌∙◌, subst, inl, inr, ⊎_elim, arith}
 use Rattle.std.proofs.lemmas.List.{get_or_default, get_or-set_same, get_or-set_other, get_or-map, length-map, length-set, map-set, set-get_or}
 use Rattle.std.proofs.lemmas.Bool.{cases_eq, both_ways, cond-true, cond-false, eq-eqb, ne_eqb}
-use Rattle.std.proofs.lemmas.Option.{none-some, same_Some}
-use Rattle.store.specs.Views.{Raised}
+use Rattle.std.proofs.lemmas.Option.{same_Some}
+use Rattle.store.specs.Views.{Adds, Raises, Raised}
 use Rattle.store.specs.Cells.{Cell, is_held, holds, at, seen, Holding, Meets}
 use Rattle.store.specs.Trees.{cells, taken, blank, follow, link, to, way, onward, next, walk, Goes, Passes, Under, Ends, Grown}
 use Rattle.store.specs.declared.store.Entry.{Entry}
+use Rattle.store.specs.declared.store.Refused.{Refused}
+use Rattle.store.specs.declared.store.Refused.TheVariants.{Full, Saturated}
 use Rattle.store.specs.declared.tree.Node.{Node}
 use Rattle.store.specs.declared.tree.Spot.TheVariants.{Root, Left, Right}
-use Rattle.store.proofs.Cells.{occupied, before, same_by, held_room, holds_held, inserted, inserted_raised, bumped, bumped_raised}
+use Rattle.store.proofs.Cells.{kept_same, met_count, occupied, before, same_by, held_room, holds_held, inserted, inserted_raised, bumped, bumped_raised}
 use Rattle.store.proofs.Trees.{past_free, follow_like, goes_held, onward_equal, cases_goes, next_way, on_way, walk_like, ended}
 
 -- a link is as it was, or it led to no key and now leads to i
@@ -63,6 +65,10 @@ module _ {K : Type 0} (eq : K → K → Bool) (ord : K → K → Ordering) (refl
   -- the tree, how many nodes it has, and its view, after a key was added
   abbrev After : K → List (Node K) → ℕ → ℕ → Type 0
   After k ys start h' = Grown eq ord ys start h' × (length ys ≡ length xs) × Raised eq (seen eq (cells xs)) (seen eq (cells ys)) k
+
+  -- the tree and its view after a write of a node, by the answer
+  abbrev Answers : {X : Type 0} → K → List (Node K) → Result X Refused → Type 0
+  Answers k ys w = Grown eq ord ys (follow ys r) h × (length ys ≡ length xs) × Adds eq (seen eq (cells xs)) (seen eq (cells ys)) k w
 
   long : length (cells xs) ≡ length xs
   long = length-map xs (λ x. x.entry)
@@ -326,18 +332,23 @@ module _ {K : Type 0} (eq : K → K → Bool) (ord : K → K → Ordering) (refl
           subst (λ cs. Raised eq (seen eq (cells xs)) (seen eq cs) k) (sym more_cells) (bumped_raised eq sym' trans' (cells xs) h ok.holding i in_cells m.found c m.there lt k m.same),
         )
 
-    pub counted : After k zs (follow zs r) h
+    counted : After k zs (follow zs r) h
     counted = subst (λ a. After k zs a h) (sym (follow_like xs zs r (length-set xs i more))) counted_at
 
-  -- the node that is met, with a count of one more
-  pub counted_in : (k : K) (i c : ℕ) (w : Node K) → Meets eq (length xs) (cells xs) k i c → c < 255 → (e : Entry K) → (get_or xs i w).entry ≡ Some e
-      → After k (set xs i (record { entry = Some (record { key = e.key; count = c + 1 }); left = (get_or xs i w).left; right = (get_or xs i w).right }))
-      (follow (set xs i (record { entry = Some (record { key = e.key; count = c + 1 }); left = (get_or xs i w).left; right = (get_or xs i w).right })) r) h
-  counted_in k i c w m lt e is =
-      let same : e ≡ record { key = m.found; count = c } = same_Some e (record { key = m.found; count = c }) (sym is ∙ sym (get_or-map (λ x. x.entry) xs i w None m.inside) ∙ m.there) in
-      subst (λ x. After k (set xs i (record { entry = Some (record { key = x; count = c + 1 }); left = (get_or xs i w).left; right = (get_or xs i w).right }))
-      (follow (set xs i (record { entry = Some (record { key = x; count = c + 1 }); left = (get_or xs i w).left; right = (get_or xs i w).right })) r) h)
-      (sym (ap (λ x. x.key) same)) (counted k i c w m lt)
-
-  pub not_free : (k : K) (i c : ℕ) (w : Node K) → Meets eq (length xs) (cells xs) k i c → (get_or xs i w).entry ≡ None → ⊥
-  not_free k i c w m is = none-some (record { key = m.found; count = c }) (sym is ∙ sym (get_or-map (λ x. x.entry) xs i w None m.inside) ∙ m.there)
+  -- the node that is met, with one more of its key or as it was, by the answer
+  pub answered : {X : Type 0} (k : K) (i c : ℕ) (x : Node K) → Meets eq (length xs) (cells xs) k i c → (e t : Entry K) (w : Result X Refused) → (get_or xs i x).entry ≡ Some e → Raises e t w
+      → Answers k (set xs i (record { entry = Some t; left = (get_or xs i x).left; right = (get_or xs i x).right })) w
+  answered {X} k i c x m e t w is up =
+      let with_entry : Option (Entry K) → Node K = λ y. record { entry = y; left = (get_or xs i x).left; right = (get_or xs i x).right } in
+      let same : e ≡ record { key = m.found; count = c } = same_Some e (record { key = m.found; count = c }) (sym is ∙ sym (get_or-map (λ y. y.entry) xs i x None m.inside) ∙ m.there) in
+      let count : e.count ≡ c = ap (λ y. y.count) same in
+      elim w as (λ v. Raises {X = X} e t v → Answers {X = X} k (set xs i (with_entry (Some t))) v) [
+        | Ok u ↦ λ v.
+            subst (λ y. Answers {X = X} k (set xs i (with_entry (Some y))) (Ok u)) (sym (v.1 ∙ ap (λ y. record { key = y.key; count = y.count + 1 }) same)) (counted k i c x m (omega (arith, v.0, count)))
+        | Err u ↦ elim u as (λ y. Raises {X = X} e t (Err y) → Answers {X = X} k (set xs i (with_entry (Some t))) (Err y)) [
+          | Full ↦ λ v. absurd v
+          | Saturated ↦ λ v.
+              let old : set xs i (with_entry (Some t)) ≡ xs = ap (λ y. set xs i (with_entry (Some y))) v.1 ∙ ap (λ y. set xs i (with_entry y)) (sym is) ∙ set-get_or xs i x in
+              subst (λ ys. Answers {X = X} k ys (Err Saturated)) (sym old) (ok, refl, (met_count eq (cells xs) h ok.holding (length xs) k i c m ∙ sym count ∙ v.0, kept_same _))
+        ]
+      ] up

@@ -1,18 +1,20 @@
 -- Probes of a table.
-use Rattle.std.proofs.Common.{◌≡◌, ℕ, zero, suc, ◌+◌, ◌%◌, ◌<◌, ◌≤◌, Bool, true, false, eqb, List, [], ◌∷◌, length, Some, None, Option, get_or, set, sum_by, sym, refl, ap, ◌∙◌, subst, ⊎_elim, mod-lt, arith, below_more}
-use Rattle.std.proofs.lemmas.List.{get_or-set_same, get_or-set_other, get_or_past, get_or-map, length-map, length-set, map-set}
+use Rattle.std.proofs.Common.{◌≡◌, ℕ, zero, suc, ◌+◌, ◌%◌, ◌<◌, ◌≤◌, Bool, true, false, eqb, List, [], ◌∷◌, length, Some, None, Option, Ok, Err, Result, get_or, set, sum_by, sym, refl, ap, ◌∙◌, subst, ⊎_elim, mod-lt, arith, below_more}
+use Rattle.std.proofs.lemmas.List.{get_or-set_same, get_or-set_other, get_or_past, get_or-map, length-map, length-set, map-set, set-get_or}
 use Rattle.std.proofs.lemmas.Bool.{cases_lt, cases_eq, cases_order, cases_Bool, cond-true, cond-false, both_ways, eq-eqb, eqb-true, ne_eqb, not-true, not-false}
 use Rattle.std.proofs.lemmas.Option.{none-some, same_Some}
 use Rattle.std.specs.List.{FoldsTo}
-use Rattle.store.specs.Views.{Raised, Empty, counted}
+use Rattle.store.specs.Views.{Adds, Raises, Raised, Empty, counted}
 use Rattle.store.specs.Cells.{Cell, is_free, is_held, holds, share, at, seen, Meets}
 use Rattle.store.specs.Probes.{cell, cells, mark_of, Marked, place, Reach, Sound, Passed, Opens, Finds}
 use Rattle.store.specs.declared.store.Found.{Found}
 use Rattle.store.specs.declared.store.Found.TheVariants.{At, Open, Nowhere}
 use Rattle.store.specs.declared.store.Entry.{Entry}
+use Rattle.store.specs.declared.store.Refused.{Refused}
+use Rattle.store.specs.declared.store.Refused.TheVariants.{Full, Saturated}
 use Rattle.store.specs.declared.table.Held.{Held}
 use Rattle.store.proofs.Ring.{place_once, place_back}
-use Rattle.store.proofs.Cells.{occupied, in_range, after, before, same_by, held_room, holds_held, absent, met_count, cleared, inserted, inserted_raised, bumped, bumped_raised}
+use Rattle.store.proofs.Cells.{kept_same, occupied, in_range, after, before, same_by, held_room, holds_held, absent, met_count, cleared, inserted, inserted_raised, bumped, bumped_raised}
 
 -- where each call gave a, the elements that they filled are a
 pub filled : {P A : Type 0} (R : P → A → P → Type 0) (a : A) → ((p q : P) (x : A) → R p x q → x ≡ a) → (p q : P) (xs : List A) → FoldsTo R p xs q
@@ -77,18 +79,6 @@ module _ {K : Type 0} (eq : K → K → Bool) where
 
   -- a place that a probe has come to
   module _ (spread : K → ℕ) (n : ℕ) (cs : List (Cell K)) (q : K) (s d i : ℕ) (e : s ≡ spread q) (there : i ≡ place n (s % n) d) (old : Passed eq n cs q (s % n) d) where
-    pub opens : i < n → d < n → at cs i ≡ None → ((y : K) → eq q y ≡ true → spread y ≡ s) → Opens eq spread n cs q i
-    opens il dl is like =
-        record {
-          inside = il;
-          steps = d;
-          within = dl;
-          there = there ∙ ap (λ t. place n (t % n) d) e;
-          ready = ap is_free is;
-          passed = subst (λ t. Passed eq n cs q (t % n) d) e old;
-          alike = λ y l. like y l ∙ e;
-        }
-
     pub passed_more : (k : K) (c : ℕ) → at cs i ≡ occupied k c → eq k q ≡ false → Passed eq n cs q (s % n) (d + 1)
     passed_more k c is ne =
         let P : Cell K → Type 0 = λ t. (is_free t ≡ false) × (holds eq q t ≡ false) in
@@ -184,6 +174,10 @@ module _ {K : Type 0} (eq : K → K → Bool) (spread : K → ℕ) (sym' : (x y 
       (Marked g (set xs i (Some (record { entry = e; generation = g }))) × Sound eq spread (cells g (set xs i (Some (record { entry = e; generation = g })))) h')
       × Raised eq (seen eq cs) (seen eq (cells g (set xs i (Some (record { entry = e; generation = g }))))) k
 
+  -- the table and its view after a write of a node at i, by the answer
+  abbrev Answers : {X : Type 0} → Held K → Result X Refused → Type 0
+  Answers u w = (Marked g (set xs i (Some u)) × Sound eq spread (cells g (set xs i (Some u))) h) × Adds eq (seen eq cs) (seen eq (cells g (set xs i (Some u)))) k w
+
   written : (e : Entry K) (h' : ℕ) → i < length cs → Sound eq spread (set cs i (Some e)) h' → Raised eq (seen eq cs) (seen eq (set cs i (Some e))) k → After h' e
   written e h' l sound more =
       let u : Held K = record { entry = e; generation = g } in
@@ -212,7 +206,7 @@ module _ {K : Type 0} (eq : K → K → Bool) (spread : K → ℕ) (sym' : (x y 
         })
         (inserted_raised eq sym' trans' cs h inv.1.holding i o.inside k off none)
 
-  pub raised : (c : ℕ) (m : Meets eq (length cs) cs k i c) → c < 255 → After h (record { key = m.found; count = c + 1 })
+  raised : (c : ℕ) (m : Meets eq (length cs) cs k i c) → c < 255 → After h (record { key = m.found; count = c + 1 })
   raised c m lt =
       written (record { key = m.found; count = c + 1 }) h m.inside
       (record {
@@ -221,21 +215,23 @@ module _ {K : Type 0} (eq : K → K → Bool) (spread : K → ℕ) (sym' : (x y 
       })
       (bumped_raised eq sym' trans' cs h inv.1.holding i m.inside m.found c m.there lt k m.same)
 
-  -- the node that is met, with a count of one more
-  pub raised_in : (c : ℕ) → Meets eq (length cs) cs k i c → c < 255 → (r : Option (Held K)) (s : Held K) → get_or xs i r ≡ Some s
-      → (Marked g (set xs i (Some (record { entry = record { key = s.entry.key; count = c + 1 }; generation = s.generation })))
-      × Sound eq spread (cells g (set xs i (Some (record { entry = record { key = s.entry.key; count = c + 1 }; generation = s.generation })))) h)
-      × Raised eq (seen eq cs) (seen eq (cells g (set xs i (Some (record { entry = record { key = s.entry.key; count = c + 1 }; generation = s.generation }))))) k
-  raised_in c m lt r s is =
+  -- the node that is met, with one more of its key or as it was, by the answer
+  pub answered : {X : Type 0} (c : ℕ) → Meets eq (length cs) cs k i c → (r : Option (Held K)) (s : Held K) (t : Entry K) (w : Result X Refused) → get_or xs i r ≡ Some s → Raises s.entry t w
+      → Answers (record { entry = t; generation = s.generation }) w
+  answered {X} c m r s t w is up =
       let l : i < length xs = omega (arith, m.inside, length-map xs (cell g)) in
-      let w = now_held g s (record { key = m.found; count = c }) (ap (cell g) (sym is) ∙ sym (at_cell g xs i r l) ∙ m.there) in
-      let P : ℕ → K → Type 0 =
-      λ g' x. (Marked g (set xs i (Some (record { entry = record { key = x; count = c + 1 }; generation = g' })))
-      × Sound eq spread (cells g (set xs i (Some (record { entry = record { key = x; count = c + 1 }; generation = g' })))) h)
-      × Raised eq (seen eq cs) (seen eq (cells g (set xs i (Some (record { entry = record { key = x; count = c + 1 }; generation = g' }))))) k in
-      subst (λ x. P s.generation x) (sym (ap (λ e. e.key) w.1)) (subst (λ g'. P g' m.found) (sym w.0) (raised c m lt))
-
-  -- a node that is met is no free one
-  pub not_free : (c : ℕ) → Meets eq (length cs) cs k i c → (r : Option (Held K)) → get_or xs i r ≡ None → ⊥
-  not_free c m r is =
-      none-some (record { key = m.found; count = c }) (ap (cell g) (sym is) ∙ sym (at_cell g xs i r (omega (arith, m.inside, length-map xs (cell g)))) ∙ m.there)
+      let now = now_held g s (record { key = m.found; count = c }) (ap (cell g) (sym is) ∙ sym (at_cell g xs i r l) ∙ m.there) in
+      let count : s.entry.count ≡ c = ap (λ e. e.count) now.1 in
+      elim w as (λ v. Raises {X = X} s.entry t v → Answers {X = X} (record { entry = t; generation = s.generation }) v) [
+        | Ok x ↦ λ u.
+            subst (λ y. Answers {X = X} (record { entry = y; generation = s.generation }) (Ok x)) (sym (u.1 ∙ ap (λ e. record { key = e.key; count = e.count + 1 }) now.1))
+            (subst (λ g'. Answers {X = X} (record { entry = record { key = m.found; count = c + 1 }; generation = g' }) (Ok x)) (sym now.0) (raised c m (omega (arith, u.0, count))))
+        | Err e ↦ elim e as (λ v. Raises {X = X} s.entry t (Err v) → Answers {X = X} (record { entry = t; generation = s.generation }) (Err v)) [
+          | Full ↦ λ u. absurd u
+          | Saturated ↦ λ u.
+              let same : set xs i (Some (record { entry = t; generation = s.generation })) ≡ xs =
+              ap (λ y. set xs i (Some (record { entry = y; generation = s.generation }))) u.1 ∙ ap (set xs i) (sym is) ∙ set-get_or xs i r in
+              subst (λ ys. (Marked g ys × Sound eq spread (cells g ys) h) × Adds {X = X} eq (seen eq cs) (seen eq (cells g ys)) k (Err Saturated)) (sym same)
+              (inv, (met_count eq cs h inv.1.holding (length cs) k i c m ∙ sym count ∙ u.0, kept_same _))
+        ]
+      ] up

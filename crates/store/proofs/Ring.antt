@@ -4,15 +4,6 @@ use Rattle.std.proofs.lemmas.Bool.{cases_lt}
 use Rattle.std.proofs.lemmas.Bool.Decides.{nat_tests}
 use Rattle.store.specs.Probes.{place}
 
-pub place_below : (n h d : ℕ) → h < n → d < n → place n h d < n
-place_below n h d p q = grind (arith, nat_tests)
-
-pub place_on : (n h d i : ℕ) → h < n → d < n → i ≡ place n h d → i < n → (i + 1 ≡ n → ⊥) → i + 1 ≡ place n h (d + 1)
-place_on n h d i p q e l ne = grind (arith, nat_tests)
-
-pub place_round : (n h d i : ℕ) → h < n → d < n → i ≡ place n h d → i + 1 ≡ n → 0 ≡ place n h (d + 1)
-place_round n h d i p q e l = grind (arith, nat_tests)
-
 pub place_once : (n h d e : ℕ) → h < n → d < n → e < n → place n h d ≡ place n h e → d ≡ e
 place_once n h d e p q r s = grind (arith, nat_tests)
 

@@ -1,17 +1,18 @@
 -- Walks in a tree, and what an addition does to them.
-use Rattle.std.proofs.Common.{◌≡◌, ℕ, zero, suc, ◌+◌, ◌-◌, ◌<◌, ◌≤◌, Bool, true, false, cond, ◌⊎◌, List, length, get_or, set, sum_by, position, drop, ltb, not, Some, None, Option, Ordering, Less, Equal, Greater, sym, refl, ap, ◌∙◌, subst, inl, inr, ⊎_elim, add-zero, add-suc, add-one, arith, below_more}
-use Rattle.std.proofs.lemmas.List.{get_or_past, get_or-map, get_or-drop, drop-map, length-drop, length-map, map-set}
+use Rattle.std.proofs.Common.{◌≡◌, ℕ, zero, suc, ◌+◌, ◌-◌, ◌<◌, ◌≤◌, Bool, true, false, cond, ◌⊎◌, List, length, get_or, set, sum_by, position, take, drop, ltb, not, Some, None, Option, Ordering, Less, Equal, Greater, sym, refl, ap, ◌∙◌, subst, inl, inr, ⊎_elim, add-zero, add-suc, add-one, arith, below_more}
+use Rattle.std.proofs.lemmas.List.{get_or_past, get_or-map, get_or-drop, drop-map, length-drop, length-map, map-set, take_all}
 use Rattle.std.proofs.lemmas.Bool.{cases_lt, cases_Bool, cond-true, cond-false, both_ways, false_from_ne_true, lt-ltb, le-ltb}
 use Rattle.std.proofs.lemmas.List.Sums.{prefix_len_passes, prefix_len_stops}
 use Rattle.std.specs.List.{prefix_len}
+use Rattle.std.specs.Prelude.{MatchOption}
 use Rattle.store.specs.Views.{Empty, counted}
 use Rattle.store.specs.Cells.{Cell, is_held, holds, share, at, seen}
-use Rattle.store.specs.Trees.{cells, taken, blank, follow, to, way, turn, onward, next, walk, Goes, Turns, Passes, Under, Seeks, Spares, Grown}
+use Rattle.store.specs.Trees.{cells, taken, blank, follow, to, way, turn, onward, next, walk, Goes, Turns, Passes, Under, Comes, Ends, Seeks, Spares, Grown}
 use Rattle.store.specs.declared.store.Found.{Found}
 use Rattle.store.specs.declared.store.Found.TheVariants.{At, Open, Nowhere}
 use Rattle.store.specs.declared.tree.Node.{Node}
 use Rattle.store.specs.declared.tree.Spot.{Spot}
-use Rattle.store.proofs.Cells.{occupied, in_range, after, holds_held, absent, met_count, at_most, cleared}
+use Rattle.store.proofs.Cells.{occupied, after, holds_held, absent, met_count, at_most, cleared}
 
 not_equal : (s : Bool) → way s ≡ Equal → ⊥
 not_equal true e = let z : ◌≡◌ {A = ℕ} 0 1 = cc in omega arith
@@ -24,9 +25,6 @@ module _ {K : Type 0} where
   pub past_free : (xs : List (Node K)) (i : ℕ) → length xs ≤ i → taken xs i ≡ false
   past_free xs i l = ap is_held (get_or_past (cells xs) i None (omega (arith, length-map xs (λ x. x.entry))))
 
-  pub taken_in : (xs : List (Node K)) (i : ℕ) → taken xs i ≡ true → i < length xs
-  taken_in xs i t = omega (arith, in_range (cells xs) i t, length-map xs (λ x. x.entry))
-
   pub free_more : (xs : List (Node K)) (i : ℕ) (u : Node K) → u.entry ≡ None → i < length xs → ((k : ℕ) → k < i → taken xs k ≡ false) → (k : ℕ) → k < i + 1 → taken (set xs i u) k ≡ false
   free_more xs i u e il old k l =
       subst (λ cs. is_held (at cs k) ≡ false) (sym (map-set (λ x. x.entry) xs i u))
@@ -34,7 +32,7 @@ module _ {K : Type 0} where
       (ap is_held e) (λ ne. old k (omega arith)))
 
   -- the first node with no key
-  pub spares_first : (xs : List (Node K)) → Spares xs (position (λ x. not (is_held x.entry)) xs)
+  spares_first : (xs : List (Node K)) → Spares xs (position (λ x. not (is_held x.entry)) xs)
   spares_first xs =
       let held : Node K → Bool = λ x. not (not (is_held x.entry)) in
       let n : ℕ = prefix_len held xs in
@@ -45,9 +43,20 @@ module _ {K : Type 0} where
       (λ (l : length xs ≤ n). subst (Spares xs) (sym (cond-false (ltb n (length xs)) (Some n) None (le-ltb n (length xs) l))) (λ i il. key i il ∙ prefix_len_passes held xs i blank (omega arith)))
       (cases_lt n (length xs))
 
-  pub spares_on : (xs : List (Node K)) (n d : ℕ) → Spares (drop n xs) (Some d) → Spares xs (Some (n + d))
+  spares_on : (xs : List (Node K)) (n d : ℕ) → Spares (drop n xs) (Some d) → Spares xs (Some (n + d))
   spares_on xs n d r =
       (omega (arith, length-drop n xs, r.0), ap is_held (sym (get_or-drop n (cells xs) d None) ∙ ap (λ cs. at cs d) (drop-map (λ x. x.entry) n xs)) ∙ r.1)
+
+  -- the first node with no key from n on, or else the first
+  pub spares_else : (xs : List (Node K)) (n : ℕ) (r m e : Option ℕ) → r ≡ position (λ x. not (is_held x.entry)) (take (length xs - n) (drop n xs))
+      → MatchOption r (m ≡ None) (λ d. m ≡ Some (n + d)) → MatchOption m (e ≡ position (λ x. not (is_held x.entry)) xs) (λ d. e ≡ Some d) → Spares xs e
+  spares_else xs n None m e f on whole =
+      subst (Spares xs) (sym (subst (λ t. MatchOption t (e ≡ position (λ x. not (is_held x.entry)) xs) (λ d. e ≡ Some d)) on whole)) (spares_first xs)
+  spares_else xs n (Some d) m e f on whole =
+      let first : Some d ≡ position (λ x. not (is_held x.entry)) (drop n xs) =
+      f ∙ ap (position (λ x. not (is_held x.entry))) (take_all _ (drop n xs) (omega (arith, length-drop n xs))) in
+      let is : e ≡ Some (n + d) = subst (λ t. MatchOption t (e ≡ position (λ x. not (is_held x.entry)) xs) (λ j. e ≡ Some j)) on whole in
+      subst (Spares xs) (sym is) (spares_on xs n d (subst (Spares (drop n xs)) (sym first) (spares_first (drop n xs))))
 
   -- a link leads to the same place in as many nodes
   pub follow_like : (xs ys : List (Node K)) (l : Option ℕ) → length ys ≡ length xs → follow ys l ≡ follow xs l
@@ -113,6 +122,12 @@ module _ {K : Type 0} (eq : K → K → Bool) (ord : K → K → Ordering) (xs :
         goes = λ y e. subst (λ s. Goes ord y s (way b)) (sym is) (alike y e);
         other = ap (holds eq q) is ∙ false_from_ne_true (eq k q) (λ t. not_equal b (tied (sym' k q t)));
       }
+
+  -- a walk that has come to a link to no key
+  pub ends_at : (root : ℕ) (q : K) (d : ℕ) (l : Option ℕ) (s : Spot) → d < length xs
+      → (follow xs l ≡ walk ord xs root q d) × Comes eq ord xs root q d s × Passes eq ord xs root q d → taken xs (follow xs l) ≡ false → Ends eq ord xs root q s
+  ends_at root q d l s within (here, comes, passed) free =
+      record { steps = d; within = within; nothing = subst (λ i. taken xs i ≡ false) here free; passed = passed; comes = comes }
 
   module _ (refl' : (x : K) → eq x x ≡ true) (root : ℕ) (q : K) where
     -- one step more

@@ -1,5 +1,6 @@
 -- What can be seen of a store, and what its functions do to it.
 use Rattle.std.specs.Prelude.{◌≡◌, ℕ, ◌+◌, ◌<◌, Bool, true, false, List, Ok, Err, Result, codes}
+use Rattle.store.specs.declared.store.Entry.{Entry}
 use Rattle.store.specs.declared.store.Found.{Found}
 use Rattle.store.specs.declared.store.Found.TheVariants.{At, Open, Nowhere}
 use Rattle.store.specs.declared.store.Refused.{Refused}
@@ -53,6 +54,12 @@ abbrev pub Adds : {K X : Type 0} → (K → K → Bool) → View K → View K �
 Adds eq s t k (Ok x) = Raised eq s t k
 Adds eq s t k (Err Full) = (s.count k ≡ 0) × (s.held ≡ s.capacity) × Kept s t
 Adds eq s t k (Err Saturated) = (s.count k ≡ 255) × Kept s t
+
+-- the entry t is s with one more of its key, unless its count is 255, by the answer
+abbrev pub Raises : {K X : Type 0} → Entry K → Entry K → Result X Refused → Type 0
+Raises s t (Ok x) = (s.count < 255) × (t ≡ record { key = s.key; count = s.count + 1 })
+Raises s t (Err Full) = ⊥
+Raises s t (Err Saturated) = (s.count ≡ 255) × (t ≡ s)
 
 -- t has room for n keys and holds none
 pub record Empty {K : Type 0} (n : ℕ) (t : View K) : Type 0 where

@@ -1,16 +1,26 @@
 // What every store of keys promises.
 ghost use Rattle.std.specs.Prelude.{◌≡◌, Some};
-ghost use Rattle.store.specs.Views.{View, Tells, Adds, Empty, counted, refusal, refusal_name};
+ghost use Rattle.store.specs.Views.{View, Tells, Adds, Raises, Empty, counted, refusal, refusal_name};
 
 use keys::Key;
 use std::error::Error;
 use std::fmt;
 
-// A key with its count.
+/// A key with its count.
 #[derive(Drop)]
 pub struct Entry<K> {
     pub key: K,
     pub count: u8,
+}
+
+impl<K> Entry<K> {
+    // One more of the key, unless its count is 255.
+    pub(crate) fn raise(&mut self) -> Result<(), Refused>
+        ensures { Raises self.old self.new result }
+    {
+        self.count = self.count.checked_add(1).ok_or(Refused::Saturated)?;
+        Ok(())
+    }
 }
 
 // What a search for a key comes to: the place that holds it and its count, where it can be put, or neither.
@@ -32,7 +42,7 @@ impl<P> Found<P> {
     }
 }
 
-// Why a key is not added: no room for one more key, or its count is 255.
+/// Why a key is not added: no room for one more key, or its count is 255.
 #[derive(Clone, Copy, PartialEq, Eq, Debug)]
 pub enum Refused {
     Full = 24,
@@ -40,6 +50,7 @@ pub enum Refused {
 }
 
 impl Refused {
+    /// The number of the refusal.
     pub fn number(self) -> u8
         ensures { result ≡ refusal self }
     {
@@ -60,18 +71,23 @@ impl fmt::Display for Refused {
 
 impl Error for Refused {}
 
+/// What counts keys, in the room that it has.
 pub trait Store<K: Key> {
     ghost view: { Self → View K };
 
+    /// How many keys there is room for.
     fn capacity(&self) -> usize
         ensures { result ≡ (view self.now).capacity };
 
+    /// The count of the key, 0 if it is not held.
     fn count(&mut self, key: &K) -> u8
         ensures { Tells K.Key.equals (view self.old) (view self.new) key.now result };
 
+    /// Adds one to the count of the key.
     fn add(&mut self, key: K) -> Result<(), Refused>
         ensures { Adds K.Key.equals (view self.old) (view self.new) key result };
 
+    /// Forgets the keys, and keeps the room.
     fn clear(&mut self)
         ensures { Empty (view self.old).capacity (view self.new) };
 }

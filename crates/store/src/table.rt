@@ -1,24 +1,24 @@
 // A hash table with open addressing, over nodes that the caller lends.
-ghost use Rattle.std.specs.Prelude.{◌≡◌, length};
+ghost use Rattle.std.specs.Prelude.{◌≡◌, ◌<◌, length};
 ghost use Rattle.store.specs.Views.{Empty};
 ghost use Rattle.store.specs.Cells.{held_in, seen};
-ghost use Rattle.store.specs.Probes.{Sound, Finds};
+ghost use Rattle.store.specs.Probes.{place, Sound, Finds};
 
 use crate::store::{Entry, Found, Refused, Store};
 use keys::{Key, SpreadKey};
 use std::marker::Model;
 
-// A key with its count, and the generation that it was added in.
+/// A key with its count, and the generation that it was added in.
 #[derive(Drop)]
 pub struct Held<K> {
     pub entry: Entry<K>,
     pub generation: u32,
 }
 
-// A node of a table.
+/// A node of a table.
 pub type Slot<K> = Option<Held<K>>;
 
-// The nodes of earlier generations count as free. A clause sees what each node stands for.
+/// A hash table over lent nodes. Those of earlier generations count as free. A clause sees what each node stands for.
 #[derive(Drop)]
 pub struct Table<'a, K: SpreadKey> {
     nodes: &'a mut [Slot<K>],
@@ -39,7 +39,7 @@ impl<'a, K: SpreadKey> Model for Table<'a, K> {
 }
 
 impl<'a, K: SpreadKey + Drop> Table<'a, K> {
-    // A table with no key. The nodes may be in any state.
+    /// A table with no key. The nodes may be in any state.
     pub fn new(nodes: &'a mut [Slot<K>]) -> Table<'a, K>
         ensures sound { Sound K.Key.equals K.SpreadKey.spreads result (held_in result) }
         ensures empty { Empty (length nodes.old) (seen K.Key.equals result) }
@@ -53,8 +53,18 @@ impl<'a, K: SpreadKey + Drop> Table<'a, K> {
     }
 }
 
+// The place that is `d` steps after `home`, in a ring of `n`.
+fn place(n: usize, home: usize, d: usize) -> usize
+    requires start { home < n }
+    requires step { d < n }
+    ensures value { result ≡ place n home d }
+    ensures below { result < n }
+{
+    let to_end = n - home;
+    if d < to_end { home + d } else { d - to_end }
+}
+
 impl<K: SpreadKey> Table<'_, K> {
-    #[tactic(auto, using(crate::proofs::Ring::place_below))]
     fn find(&self, key: &K) -> Found<usize>
         ensures sound { Sound K.Key.equals K.SpreadKey.spreads self.now (held_in self.now) }
         ensures finds { Finds K.Key.equals K.SpreadKey.spreads (length self.now) self.now key.now result }
@@ -65,9 +75,8 @@ impl<K: SpreadKey> Table<'_, K> {
             return Found::Nowhere;
         }
         let home = (key.spread() % n as u64) as usize;
-        // The place is counted by hand: over `(home..n).chain(0..home)` the proof would follow the chain's state.
-        let mut i = home;
-        for _ in 0..n {
+        for d in 0..n {
+            let i = place(n, home, d);
             match &nodes[i] {
                 Some(held) if held.generation == self.generation => {
                     if held.entry.key.same(key) {
@@ -77,10 +86,6 @@ impl<K: SpreadKey> Table<'_, K> {
                 _ => {
                     return Found::Open(i);
                 }
-            }
-            i += 1;
-            if i == n {
-                i = 0;
             }
         }
         Found::Nowhere
@@ -104,13 +109,7 @@ impl<'a, K: SpreadKey + Drop> Store<K> for Table<'a, K> {
 
     fn add(&mut self, key: K) -> Result<(), Refused> {
         match self.find(&key) {
-            Found::At(i, count) => {
-                let more = count.checked_add(1).ok_or(Refused::Saturated)?;
-                if let Some(held) = &mut self.nodes[i] {
-                    held.entry.count = more;
-                }
-                Ok(())
-            }
+            Found::At(i, _) => self.nodes[i].as_mut().unwrap().entry.raise(),
             Found::Open(i) => {
                 self.nodes[i] = Some(Held {
                     entry: Entry { key, count: 1 },

@@ -1,15 +1,15 @@
 // A binary search tree, over nodes that the caller lends.
-ghost use Rattle.std.specs.Prelude.{◌≡◌, length, None, is_some, not, position};
+ghost use Rattle.std.specs.Prelude.{◌≡◌, ℕ, ◌<◌, length, None, false, is_some, not, position};
 ghost use Rattle.store.specs.Views.{Empty};
 ghost use Rattle.store.specs.Cells.{held_in, seen};
-ghost use Rattle.store.specs.Trees.{cells, follow, Grown, Seeks, Spares};
+ghost use Rattle.store.specs.Trees.{cells, taken, follow, Grown, Seeks, Spares};
 
 use crate::store::{Entry, Found, Refused, Store};
 use keys::{Key, OrderedKey};
 use std::cmp::Ordering;
 use std::marker::Model;
 
-// A node of a tree: a key with its count, if any, and the nodes below it, the lesser keys left and the greater right.
+/// A node of a tree: a key with its count, if any, and the nodes below it, the lesser keys left and the greater right.
 // The links come first, since a walk reads them and the first words of a key from one line of the cache.
 #[derive(Drop)]
 pub struct Node<K> {
@@ -39,7 +39,8 @@ enum Spot {
     Right(usize),
 }
 
-// The next free node is looked for from `next` on. A clause sees the root and the nodes.
+/// A search tree over lent nodes. A clause sees the root and the nodes.
+// The next free node is looked for from `next` on.
 #[derive(Drop)]
 pub struct Tree<'a, K: OrderedKey> {
     nodes: &'a mut [Node<K>],
@@ -60,15 +61,23 @@ impl<'a, K: OrderedKey> Model for Tree<'a, K> {
     ghost invariant = { λ t. Grown K.Key.equals K.OrderedKey.orders t.nodes.now (follow t.nodes.now t.root) t.held × (t.next ≤ length t.nodes.now) };
 }
 
+// Frees the nodes, with whatever links they have.
+fn vacate<K: Drop>(nodes: &mut [Node<K>])
+    ensures size { length nodes.new ≡ length nodes.old }
+    ensures free { (i : ℕ) → i < length nodes.new → taken nodes.new i ≡ false }
+{
+    for node in nodes.iter_mut() {
+        node.entry = None;
+    }
+}
+
 impl<'a, K: OrderedKey + Drop> Tree<'a, K> {
-    // A tree with no key. The nodes may be in any state.
+    /// A tree with no key. The nodes may be in any state.
     pub fn new(nodes: &'a mut [Node<K>]) -> Tree<'a, K>
         ensures grown { Grown K.Key.equals K.OrderedKey.orders result.1 (follow result.1 result.0) (held_in (cells result.1)) }
         ensures empty { Empty (length nodes.old) (seen K.Key.equals (cells result.1)) }
     {
-        for node in nodes.iter_mut() {
-            node.entry = None;
-        }
+        vacate(nodes);
         Tree {
             nodes,
             root: None,
@@ -122,10 +131,10 @@ impl<K: OrderedKey> Tree<'_, K> {
     fn spare(&self) -> Option<usize>
         ensures { Spares self.now.1 result }
     {
-        match first_free(&self.nodes[self.next..]) {
-            Some(d) => Some(self.next + d),
-            None => first_free(self.nodes),
-        }
+        let next = self.next;
+        first_free(&self.nodes[next..])
+            .map(|d| next + d)
+            .or_else(|| first_free(self.nodes))
     }
 }
 
@@ -146,13 +155,7 @@ impl<'a, K: OrderedKey + Drop> Store<K> for Tree<'a, K> {
 
     fn add(&mut self, key: K) -> Result<(), Refused> {
         match self.seek(&key) {
-            Found::At(i, count) => {
-                let more = count.checked_add(1).ok_or(Refused::Saturated)?;
-                if let Some(entry) = &mut self.nodes[i].entry {
-                    entry.count = more;
-                }
-                Ok(())
-            }
+            Found::At(i, _) => self.nodes[i].entry.as_mut().unwrap().raise(),
             Found::Open(spot) => {
                 let i = self.spare().ok_or(Refused::Full)?;
                 self.nodes[i] = Node {
@@ -173,9 +176,7 @@ impl<'a, K: OrderedKey + Drop> Store<K> for Tree<'a, K> {
     }
 
     fn clear(&mut self) {
-        for node in self.nodes.iter_mut() {
-            node.entry = None;
-        }
+        vacate(self.nodes);
         self.root = None;
         self.held = 0;
         self.next = 0;

@@ -1,52 +1,31 @@
 use Rattle.std.proofs.Common.{◌≡◌, ◌+◌, ◌<◌, ◌≤◌, true, false, length, get_or, rules, Some, None, sym, ap, ◌∙◌, subst, arith}
 use Rattle.store.specs.Cells.{is_held, at}
 use Rattle.store.specs.Trees.{cells, follow, walk, Comes, Passes, taken, blank}
-use Rattle.store.proofs.Trees.{at_entry, past_free, turns_by, walk_more}
+use Rattle.store.proofs.Trees.{at_entry, past_free, ends_at, turns_by, walk_more}
 use Rattle.store.proofs.tree.Tree.seek.Goals as goal
 use Rattle.store.proofs.tree.Tree.seek.Goals.{in-Less, in-Greater}
 
 pub returns-in_default-clause-seeks : goal.returns-in_default-clause-seeks
 returns-in_default-clause-seeks g c =
     let xs = c.self.inside.nodes.now in
-    let inv = c.loop.invariant in
-    rw (← c.self.view_is)
-    (record {
-      steps = c.loop.counter;
-      within = omega arith;
-      nothing = subst (λ j. taken xs j ≡ false) (ap (follow xs) (sym c.in_default.is) ∙ inv.0) (past_free xs (length xs) (omega arith));
-      passed = inv.2;
-      comes = inv.1;
-    })
+    let free = ap (λ l. taken xs (follow xs l)) c.in_default.is ∙ past_free xs (length xs) (omega arith) in
+    rw (← c.self.view_is) (ends_at g.K.Key.equals g.K.OrderedKey.orders xs _ c.args.key.now c.loop.counter c.loop.link c.loop.spot (omega arith) c.loop.invariant free)
 
 pub returns-in_default-get-clause-seeks : goal.returns-in_default-get-clause-seeks
 returns-in_default-get-clause-seeks g c =
     let xs = c.self.inside.nodes.now in
-    let inv = c.loop.invariant in
     let past : length xs ≤ c.in-Some.i = search rules in
-    rw (← c.self.view_is)
-    (record {
-      steps = c.loop.counter;
-      within = omega arith;
-      nothing = subst (λ j. taken xs j ≡ false) (ap (follow xs) (sym c.in-Some.is) ∙ inv.0) (past_free xs c.in-Some.i past);
-      passed = inv.2;
-      comes = inv.1;
-    })
+    let free = ap (λ l. taken xs (follow xs l)) c.in-Some.is ∙ past_free xs c.in-Some.i past in
+    rw (← c.self.view_is) (ends_at g.K.Key.equals g.K.OrderedKey.orders xs _ c.args.key.now c.loop.counter c.loop.link c.loop.spot (omega arith) c.loop.invariant free)
 
 pub returns-in_default-entry-clause-seeks : goal.returns-in_default-entry-clause-seeks
 returns-in_default-entry-clause-seeks g c =
     let xs = c.self.inside.nodes.now in
-    let inv = c.loop.invariant in
     let l : c.in-Some.i < length xs = search rules in
     let node : c.in-Some-get.node.now ≡ get_or xs c.in-Some.i blank = search rules in
-    let free : at (cells xs) c.in-Some.i ≡ None = at_entry xs c.in-Some.i blank l ∙ ap (λ n. n.entry) (sym node) ∙ c.in_default-entry.is in
-    rw (← c.self.view_is)
-    (record {
-      steps = c.loop.counter;
-      within = omega arith;
-      nothing = subst (λ j. taken xs j ≡ false) (ap (follow xs) (sym c.in-Some.is) ∙ inv.0) (ap is_held free);
-      passed = inv.2;
-      comes = inv.1;
-    })
+    let none : at (cells xs) c.in-Some.i ≡ None = at_entry xs c.in-Some.i blank l ∙ ap (λ n. n.entry) (sym node) ∙ c.in_default-entry.is in
+    let free = ap (λ l. taken xs (follow xs l)) c.in-Some.is ∙ ap is_held none in
+    rw (← c.self.view_is) (ends_at g.K.Key.equals g.K.OrderedKey.orders xs _ c.args.key.now c.loop.counter c.loop.link c.loop.spot (omega arith) c.loop.invariant free)
 
 pub loop-preserved : goal.loop-preserved
 loop-preserved g c =

@@ -1,23 +1,14 @@
-use Rattle.std.proofs.Common.{◌≡◌, ◌+◌, ◌<◌, length, Some, None, Err, rules, sym, ap, ◌∙◌, subst, arith}
+use Rattle.std.proofs.Common.{◌≡◌, ◌<◌, length, get_or, Some, None, Err, rules, sym, ap, ◌∙◌, subst, arith}
 use Rattle.std.proofs.lemmas.List.{length-map}
 use Rattle.store.specs.Views.{Adds}
 use Rattle.store.specs.Cells.{seen, Meets}
 use Rattle.store.specs.Trees.{cells, follow, Ends, Spares}
-use Rattle.store.specs.declared.store.Refused.TheVariants.{Full, Saturated}
-use Rattle.store.proofs.Cells.{kept_same, absent, met_count, held_all}
+use Rattle.store.specs.declared.store.Refused.TheVariants.{Full}
+use Rattle.store.proofs.Cells.{kept_same, absent, held_all}
 use Rattle.store.proofs.Trees.{ended, lost, lost_full}
-use Rattle.store.proofs.Growth.{add_root, add_left, add_right, counted_in, not_free}
+use Rattle.store.proofs.Growth.{add_root, add_left, add_right, answered}
 use Rattle.store.proofs.tree.TreeStore.add.Goals as goal
-use Rattle.store.proofs.tree.TreeStore.add.Goals.{in-Some, in_default, in-Root, in-Left, in-Right}
-
-pub returns-in_err-more-in-At : goal.returns-in_err-more-in-At
-returns-in_err-more-in-At g c =
-    let eq = g.K.Key.equals in
-    let cs = cells c.args.self.now.1 in
-    let e : c.from_residual.result ≡ Err Saturated = search rules in
-    let full : c.in-At.count ≡ 255 = search rules in
-    subst (λ r. Adds eq (seen eq cs) (seen eq cs) c.args.key r) (sym e)
-    (met_count eq cs _ c.in-At.ensures.grown.holding (length c.args.self.now.1) c.args.key _ _ c.in-At.ensures.seeks ∙ full, kept_same _)
+use Rattle.store.proofs.tree.TreeStore.add.Goals.{in-Root, in-Left, in-Right}
 
 pub offset_bounds-self-inside-i : goal.offset_bounds-self-inside-i
 offset_bounds-self-inside-i g c =
@@ -28,17 +19,11 @@ pub invariant_of-self : goal.invariant_of-self
 invariant_of-self g c =
     let k = g.met.K.Key in
     let eq = g.K.Key.equals in
-    let ord = g.K.OrderedKey.orders in
     let xs = c.self.inside.nodes.now in
-    let m = subst (λ t. Meets eq (length t.1) (cells t.1) c.args.key c.in-At.i c.in-At.count) (sym c.self.view_is) c.in-At.ensures.seeks in
-    let more : c.in_ok-more-in-At.more ≡ c.in-At.count + 1 = search rules in
-    let below : c.in-At.count < 255 = search rules in
-    elim c.match-self-i.branch [
-      | in-Some w ↦
-          let t = counted_in eq ord k.reflexive k.symmetric k.transitive xs c.self.inside.root c.self.inside.held c.self.invariant.0 c.args.key c.in-At.i c.in-At.count c.index-self-i.result m below w.in-Some.entry w.in-Some.is in
-          rw (w.self-inside-is, more) (t.0, omega (arith, c.self.invariant.1, t.1))
-      | in_default w ↦ absurd (not_free eq ord k.reflexive k.symmetric k.transitive xs c.self.inside.root c.self.inside.held c.self.invariant.0 c.args.key c.in-At.i c.in-At.count c.index-self-i.result m w.in_default.is)
-    ]
+    let m = subst (λ t. Meets eq (length t.1) (cells t.1) c.args.key c.in-At.i c.in-At.field-1) (sym c.self.view_is) c.in-At.ensures.seeks in
+    let is : (get_or xs c.in-At.i c.index-self-i.result).entry ≡ Some c.unwrap.result.now = search rules in
+    let t = answered eq g.K.OrderedKey.orders k.reflexive k.symmetric k.transitive xs c.self.inside.root c.self.inside.held c.self.invariant.0 c.args.key c.in-At.i c.in-At.field-1 c.index-self-i.result m c.unwrap.result.now c.raise.new.self c.raise.result is c.raise.ensures in
+    (t.0, omega (arith, c.self.invariant.1, t.1))
 
 pub returns-in-Nowhere : goal.returns-in-Nowhere
 returns-in-Nowhere g c =
@@ -59,7 +44,7 @@ returns-in_err-i-in-Open g c =
     let xs = c.args.self.now.1 in
     let cs = cells c.args.self.now.1 in
     let end = c.in-Open.ensures.seeks in
-    let e : c.from_residual-in_err-i-in-Open.result ≡ Err Full = search rules in
+    let e : c.from_residual.result ≡ Err Full = search rules in
     let no : c.spare.result ≡ None = search rules in
     let none = subst (Spares xs) no c.spare.ensures in
     subst (λ r. Adds eq (seen eq cs) (seen eq cs) c.args.key r) (sym e) (
@@ -112,21 +97,15 @@ invariant_of-self-in-Open g c =
           rw (w.self-inside-is, c.default.ensures) (t.0, omega (arith, spare.0, t.1))
     ]
 
-pub returns-after-self-i : goal.returns-after-self-i
-returns-after-self-i g c =
+pub returns-in-At : goal.returns-in-At
+returns-in-At g c =
     let k = g.met.K.Key in
     let eq = g.K.Key.equals in
-    let ord = g.K.OrderedKey.orders in
     let xs = c.self.inside.nodes.now in
-    let m = subst (λ t. Meets eq (length t.1) (cells t.1) c.args.key c.in-At.i c.in-At.count) (sym c.self.view_is) c.in-At.ensures.seeks in
-    let more : c.in_ok-more-in-At.more ≡ c.in-At.count + 1 = search rules in
-    let below : c.in-At.count < 255 = search rules in
-    elim c.match-self-i.branch [
-      | in-Some w ↦
-          let t = counted_in eq ord k.reflexive k.symmetric k.transitive xs c.self.inside.root c.self.inside.held c.self.invariant.0 c.args.key c.in-At.i c.in-At.count c.index-self-i.result m below w.in-Some.entry w.in-Some.is in
-          rw (← c.self.view_is, w.self-inside-is, more) t.2
-      | in_default w ↦ absurd (not_free eq ord k.reflexive k.symmetric k.transitive xs c.self.inside.root c.self.inside.held c.self.invariant.0 c.args.key c.in-At.i c.in-At.count c.index-self-i.result m w.in_default.is)
-    ]
+    let m = subst (λ t. Meets eq (length t.1) (cells t.1) c.args.key c.in-At.i c.in-At.field-1) (sym c.self.view_is) c.in-At.ensures.seeks in
+    let is : (get_or xs c.in-At.i c.index-self-i.result).entry ≡ Some c.unwrap.result.now = search rules in
+    let t = answered eq g.K.OrderedKey.orders k.reflexive k.symmetric k.transitive xs c.self.inside.root c.self.inside.held c.self.invariant.0 c.args.key c.in-At.i c.in-At.field-1 c.index-self-i.result m c.unwrap.result.now c.raise.new.self c.raise.result is c.raise.ensures in
+    rw (← c.self.view_is) t.2
 
 pub returns-after-spot : goal.returns-after-spot
 returns-after-spot g c =
