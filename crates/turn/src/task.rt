@@ -35,16 +35,10 @@ impl<'a> Task<'a> {
         ensures { IfOk result (ReadAs line.now) }
     {
         let mut fields = fields(line);
-        let (Some(letters), Some(side)) = (fields.next(), fields.next()) else {
+        let (Some(letters), Some(side)) = (fields.next(), fields.next().and_then(number)) else {
             return Ok(None);
         };
-        let Some(side) = number(side) else {
-            return Ok(None);
-        };
-        let Some(codes) = numbers(heap, fields)? else {
-            return Ok(None);
-        };
-        Ok(Some(Task {
+        Ok(numbers(heap, fields)?.map(|codes| Task {
             letters,
             side,
             codes,
