@@ -7,7 +7,9 @@ use std::alloc::{AllocError, Global};
 pub fn nodes<N: Default + Drop>(heap: Global, count: usize) -> Result<Vec<N>, AllocError>
     ensures { IfOk result (λ v. vec_len v ≡ count) }
 {
-    let mut nodes = Vec::new(heap);
-    nodes.resize_with(count, || N::default())?;
+    let mut nodes = Vec::with_capacity(heap, count)?;
+    for _ in 0..count {
+        nodes.push(N::default())?;
+    }
     Ok(nodes)
 }

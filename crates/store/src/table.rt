@@ -1,5 +1,5 @@
 // A hash table with open addressing, over nodes that the caller lends.
-ghost use Rattle.std.specs.Prelude.{◌≡◌, ◌<◌, length};
+ghost use Rattle.std.specs.Prelude.{◌≡◌, ℕ, ◌<◌, length, None, slice_index_or};
 ghost use Rattle.store.specs.Views.{Empty};
 ghost use Rattle.store.specs.Cells.{held_in, seen};
 ghost use Rattle.store.specs.Probes.{place, Sound, Finds};
@@ -38,13 +38,25 @@ impl<'a, K: SpreadKey> Model for Table<'a, K> {
     ghost invariant = { λ t. Marked t.generation t.nodes.now × Sound K.Key.equals K.SpreadKey.spreads (cells t.generation t.nodes.now) t.held };
 }
 
+// Frees the nodes.
+fn vacate<K: Drop>(nodes: &mut [Slot<K>])
+    ensures size { length nodes.new ≡ length nodes.old }
+    ensures free { (i : ℕ) → i < length nodes.new → slice_index_or nodes.new i None ≡ None }
+{
+    for node in nodes.iter_mut() {
+        if node.is_some() {
+            *node = None;
+        }
+    }
+}
+
 impl<'a, K: SpreadKey + Drop> Table<'a, K> {
     /// A table with no key. The nodes may be in any state.
     pub fn new(nodes: &'a mut [Slot<K>]) -> Table<'a, K>
         ensures sound { Sound K.Key.equals K.SpreadKey.spreads result (held_in result) }
         ensures empty { Empty (length nodes.old) (seen K.Key.equals result) }
     {
-        nodes.fill_with(|| None);
+        vacate(nodes);
         Table {
             nodes,
             generation: 0,
@@ -128,7 +140,7 @@ impl<'a, K: SpreadKey + Drop> Store<K> for Table<'a, K> {
             self.generation += 1;
             return;
         }
-        self.nodes.fill_with(|| None);
+        vacate(self.nodes);
         self.generation = 0;
     }
 }

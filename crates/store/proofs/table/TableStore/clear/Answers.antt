@@ -1,7 +1,7 @@
-use Rattle.std.proofs.Common.{None, length, sym, refl, ap, ◌∙◌, rules, arith}
+use Rattle.std.proofs.Common.{length, sym, refl, ap, ◌∙◌, arith}
 use Rattle.std.proofs.lemmas.List.{length-map}
 use Rattle.store.specs.Probes.{cell}
-use Rattle.store.proofs.Probes.{filled, freed, next_vacant, emptied}
+use Rattle.store.proofs.Probes.{freed, next_vacant, emptied}
 use Rattle.store.proofs.table.TableStore.clear.Goals as goal
 
 pub invariant_of-self : goal.invariant_of-self
@@ -16,12 +16,9 @@ returns-then-self-lt4294967295 g c =
     (next_vacant _ c.self.inside.generation xs c.self.invariant.0 (omega arith))).1
 
 pub invariant_of-self-2 : goal.invariant_of-self-2
-invariant_of-self-2 g c =
-    let ys = c.fill_with.new.self in
-    (freed g.K.Key.equals g.K.SpreadKey.spreads 0 ys _ refl (filled _ None (λ p q x r. search rules) _ _ ys c.fill_with.ensures.ran.1 None)).0
+invariant_of-self-2 g c = (freed g.K.Key.equals g.K.SpreadKey.spreads 0 c.vacate.new.nodes _ refl c.vacate.ensures.free).0
 
 pub returns : goal.returns
 returns g c =
-    let ys = c.fill_with.new.self in
-    (freed g.K.Key.equals g.K.SpreadKey.spreads 0 ys _ (c.fill_with.ensures.len ∙ sym (length-map c.self.inside.nodes.now (cell c.self.inside.generation)) ∙ ap length c.self.view_is)
-    (filled _ None (λ p q x r. search rules) _ _ ys c.fill_with.ensures.ran.1 None)).1
+    let size = c.vacate.ensures.size ∙ sym (length-map c.self.inside.nodes.now (cell c.self.inside.generation)) ∙ ap length c.self.view_is in
+    (freed g.K.Key.equals g.K.SpreadKey.spreads 0 c.vacate.new.nodes _ size c.vacate.ensures.free).1
