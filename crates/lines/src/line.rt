@@ -26,6 +26,9 @@ fn word_from(text: &[u8], i: usize) -> u64
     requires { i ≤ 56 }
     ensures { result ≡ word text.now i }
 {
+    if i >= text.len() {
+        return 0;
+    }
     u64::from_be_bytes(array::from_fn(|k| byte_at(text, i + k)))
 }
 

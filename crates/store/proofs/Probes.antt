@@ -1,9 +1,8 @@
 -- Probes of a table.
-use Rattle.std.proofs.Common.{◌≡◌, ℕ, zero, suc, ◌+◌, ◌%◌, ◌<◌, ◌≤◌, Bool, true, false, eqb, List, [], ◌∷◌, length, Some, None, Option, Ok, Err, Result, get_or, set, sum_by, sym, refl, ap, ◌∙◌, subst, ⊎_elim, mod-lt, arith, below_more}
+use Rattle.std.proofs.Common.{◌≡◌, ℕ, ◌+◌, ◌%◌, ◌<◌, ◌≤◌, Bool, true, false, eqb, List, length, Some, None, Option, Ok, Err, Result, get_or, set, sum_by, sym, refl, ap, ◌∙◌, subst, ⊎_elim, mod-lt, arith, below_more}
 use Rattle.std.proofs.lemmas.List.{get_or-set_same, get_or-set_other, get_or_past, get_or-map, length-map, length-set, map-set, set-get_or}
 use Rattle.std.proofs.lemmas.Bool.{cases_lt, cases_eq, cases_order, cases_Bool, cond-true, cond-false, both_ways, eq-eqb, eqb-true, ne_eqb, not-true, not-false}
 use Rattle.std.proofs.lemmas.Option.{none-some, same_Some}
-use Rattle.std.specs.List.{FoldsTo}
 use Rattle.store.specs.Views.{Adds, Raises, Raised, Empty, counted}
 use Rattle.store.specs.Cells.{Cell, is_free, is_held, holds, share, at, seen, Meets}
 use Rattle.store.specs.Probes.{cell, cells, mark_of, Marked, place, Reach, Sound, Passed, Opens, Finds}
@@ -15,13 +14,6 @@ use Rattle.store.specs.declared.store.Refused.TheVariants.{Full, Saturated}
 use Rattle.store.specs.declared.table.Held.{Held}
 use Rattle.store.proofs.Ring.{place_once, place_back}
 use Rattle.store.proofs.Cells.{kept_same, occupied, in_range, after, before, same_by, held_room, holds_held, absent, met_count, cleared, inserted, inserted_raised, bumped, bumped_raised}
-
--- where each call gave a, the elements that they filled are a
-pub filled : {P A : Type 0} (R : P → A → P → Type 0) (a : A) → ((p q : P) (x : A) → R p x q → x ≡ a) → (p q : P) (xs : List A) → FoldsTo R p xs q
-    → (d : A) (i : ℕ) → i < length xs → get_or xs i d ≡ a
-filled R a each p q [] f d i l = absurd (omega arith)
-filled R a each p q (x ∷ xs) (m, r, f) d zero l = each p m x r
-filled R a each p q (x ∷ xs) (m, r, f) d (suc i) l = filled R a each m q xs f d i (omega arith)
 
 module _ {K : Type 0} where
   pub cell_now : (g : ℕ) (s : Held K) → s.generation ≡ g → cell g (Some s) ≡ Some s.entry

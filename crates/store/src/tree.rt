@@ -67,7 +67,9 @@ fn vacate<K: Drop>(nodes: &mut [Node<K>])
     ensures free { (i : ℕ) → i < length nodes.new → taken nodes.new i ≡ false }
 {
     for node in nodes.iter_mut() {
-        node.entry = None;
+        if node.entry.is_some() {
+            node.entry = None;
+        }
     }
 }
 
