@@ -1,4 +1,4 @@
-use Rattle.std.proofs.Common.{◌≡◌, ◌<◌, ◌≤◌, sym, ◌∙◌, ⊎_elim, arith}
+use Rattle.std.proofs.Common.{◌≡◌, ◌<◌, ◌≤◌, sym, ◌∙◌, ⊎_elim, arith, rules}
 use Rattle.std.proofs.lemmas.Bool.{cases_eq, cases_lt}
 use Rattle.bits.specs.Planes.{on}
 use Rattle.bits.proofs.Same.{on_lt, on_high}
@@ -23,8 +23,8 @@ returns c = λ s.
             there = p.1;
             mine = p.2;
             alone = λ f.
-                let friend = c.of-own.ensures f.place ∙ of_side_some (cell b f.place) side f.piece f.there f.friend in
-                let next = c.spread.ensures.each s f.place h (on_board b f.place f.piece f.there) f.near friend in
+                let friend = of_side_some (cell b f.place) side f.piece f.there f.friend in
+                let next = c.spread.ensures.each s f.place h (on_board b f.place f.piece f.there) f.near (search rules ∙ friend) in
                 omega arith;
           }),
       (λ l.
@@ -33,7 +33,7 @@ returns c = λ s.
           ⊎_elim
           (λ (e : on near s ≡ 1).
           let j = c.spread.ensures.only s h e in
-          let p = some_of_side (cell b j.0) side (sym (c.of-own.ensures j.0) ∙ j.3) in
+          let p = some_of_side (cell b j.0) side (sym (search rules) ∙ j.3) in
           absurd (l.alone (record { place = j.0; piece = p.0; near = j.2; there = p.1; friend = p.2 })))
           (λ (n : on near s ≡ 1 → ⊥). omega (arith, on_lt near s))
           (cases_eq (on near s) 1)),
