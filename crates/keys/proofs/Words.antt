@@ -18,10 +18,10 @@ words_sym xs ys e = (lists_equiv nat_eq_equiv).symm ys xs ∙ e
 pub words_trans : (xs ys zs : List ℕ) → same_words xs ys ≡ true → same_words ys zs ≡ true → same_words xs zs ≡ true
 words_trans xs ys zs e f = (lists_equiv nat_eq_equiv).congr xs ys zs e ∙ f
 
-order_tie : (xs ys : List ℕ) → word_order xs ys ≡ Equal → xs ≡ ys
+pub order_tie : (xs ys : List ℕ) → word_order xs ys ≡ Equal → xs ≡ ys
 order_tie xs ys e = words_is xs ys (lists_ties nat_cmp unsigned_ties xs ys ∙ ap is_eq e)
 
-order_self : (xs : List ℕ) → word_order xs xs ≡ Equal
+pub order_self : (xs : List ℕ) → word_order xs xs ≡ Equal
 order_self xs = (Equal-is (word_order xs xs)).0 (sym (lists_ties nat_cmp unsigned_ties xs xs) ∙ words_self xs)
 
 -- keys that are told apart by one list of numbers, and ordered by another

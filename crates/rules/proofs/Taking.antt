@@ -38,7 +38,7 @@ closed nothing nn = tt
 closed (pull_possible s k) nn = tt
 closed (push_open s k) nn = nn (λ h. h)
 
-decides_closed : (r : Bool) (o : Open) → Decides r (NoPush o → ⊥) → Decides (not r) (NoPush o)
+pub decides_closed : (r : Bool) (o : Open) → Decides r (NoPush o → ⊥) → Decides (not r) (NoPush o)
 decides_closed r o d = Decides-like (not r) (closed o) (λ h n. n h) (Decides-not r d)
 
 -- with no push open, and no push begun

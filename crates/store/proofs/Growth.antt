@@ -332,7 +332,7 @@ module _ {K : Type 0} (eq : K → K → Bool) (ord : K → K → Ordering) (refl
           subst (λ cs. Raised eq (seen eq (cells xs)) (seen eq cs) k) (sym more_cells) (bumped_raised eq sym' trans' (cells xs) h ok.holding i in_cells m.found c m.there lt k m.same),
         )
 
-    counted : After k zs (follow zs r) h
+    pub counted : After k zs (follow zs r) h
     counted = subst (λ a. After k zs a h) (sym (follow_like xs zs r (length-set xs i more))) counted_at
 
   -- the node that is met, with one more of its key or as it was, by the answer

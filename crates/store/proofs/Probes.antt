@@ -40,14 +40,14 @@ module _ {K : Type 0} where
       (λ (m : length xs ≤ i). past_vacant (cells g xs) i (omega (arith, length-map xs (cell g))))
       (cases_lt i (length xs))
 
-  free_vacant : (g : ℕ) (xs : List (Option (Held K))) → ((i : ℕ) → i < length xs → get_or xs i None ≡ None) → (i : ℕ) → is_held (at (cells g xs) i) ≡ false
+  pub free_vacant : (g : ℕ) (xs : List (Option (Held K))) → ((i : ℕ) → i < length xs → get_or xs i None ≡ None) → (i : ℕ) → is_held (at (cells g xs) i) ≡ false
   free_vacant g xs free i =
       ⊎_elim
       (λ (m : i < length xs). ap is_held (at_cell g xs i None m ∙ ap (cell g) (free i m)))
       (λ (m : length xs ≤ i). past_vacant (cells g xs) i (omega (arith, length-map xs (cell g))))
       (cases_lt i (length xs))
 
-  free_marked : (g : ℕ) (xs : List (Option (Held K))) → ((i : ℕ) → i < length xs → get_or xs i None ≡ None) → Marked g xs
+  pub free_marked : (g : ℕ) (xs : List (Option (Held K))) → ((i : ℕ) → i < length xs → get_or xs i None ≡ None) → Marked g xs
   free_marked g xs free i =
       ⊎_elim
       (λ (m : i < length xs). omega (arith, ap mark_of (free i m)))
@@ -198,7 +198,7 @@ module _ {K : Type 0} (eq : K → K → Bool) (spread : K → ℕ) (sym' : (x y 
         })
         (inserted_raised eq sym' trans' cs h inv.1.holding i o.inside k off none)
 
-  raised : (c : ℕ) (m : Meets eq (length cs) cs k i c) → c < 255 → After h (record { key = m.found; count = c + 1 })
+  pub raised : (c : ℕ) (m : Meets eq (length cs) cs k i c) → c < 255 → After h (record { key = m.found; count = c + 1 })
   raised c m lt =
       written (record { key = m.found; count = c + 1 }) h m.inside
       (record {
