@@ -1,10 +1,10 @@
 -- The digits of a word: what `&`, `|`, `!`, `1 << s`, `count_ones` and `trailing_zeros` make of each, and sums and lists over them.
-use Rattle.std.proofs.Common.{◌≡◌, ℕ, zero, suc, ◌+◌, ◌-◌, ◌*◌, ◌/◌, ◌%◌, ◌^◌, ◌<◌, ◌≤◌, min, max, ◌≢◌, [], ◌∷◌, refl, sym, ap, ◌∙◌, ap₂, ⊎_elim, pow-suc, arith, w64}
+use Rattle.std.proofs.Common.{◌≡◌, ℕ, zero, suc, ◌+◌, ◌-◌, ◌*◌, ◌/◌, ◌%◌, ◌^◌, ◌<◌, ◌≤◌, min, max, ◌≢◌, [], ◌∷◌, refl, sym, ap, ◌∙◌, ap₂, ⊎_elim, pow-suc, pow_pos, arith, w64}
 use lib.Arith.{lt-one}
 use lib.Bits.{bit_and, bit_or}
 use lib.Count.{ones, count_trailing_zeros, ones_step}
 use Rattle.std.proofs.lemmas.Nat.{or_lt}
-use Rattle.std.proofs.lemmas.Nat.Bits.{bit_at_lowest, bit_at-suc, bit_at-zero, shr_and_one, bit_at_and, bit_at_or, bit_at_not, bit_at-trailing_zeros, bit_at_set_same, bit_at_set_other, bit_at_clear_same, bit_at_clear_other, bit_at-lt, same_from_bits_below, bit_at_above}
+use Rattle.std.proofs.lemmas.Nat.Bits.{bit_at_lowest, bit_at-suc, bit_at-zero, shr_and_one, bit_at_and, bit_at_or, bit_at-trailing_zeros, bit_at_set_same, bit_at_set_other, bit_at_clear_same, bit_at_clear_other, bit_at-lt, same_from_bits_below, bit_at_above}
 use Rattle.std.proofs.lemmas.Bool.{cases_eq, cases_lt}
 use Rattle.bits.specs.Digits.{digit, tally, pick, chosen}
 
@@ -49,15 +49,30 @@ pub digit_and_one : (n k : ℕ) → bit_and (n / 2 ^ k) 1 ≡ digit n k
 unfolding digit
 digit_and_one = shr_and_one
 
+-- `!m`, of w digits
+digit_not : (w m k : ℕ) → m < 2 ^ w → k < w → digit ((2 ^ w - 1) - m) k ≡ 1 - digit m k
+digit_not zero m k h l = absurd (omega arith)
+digit_not (suc w) m zero h l =
+    let p = pow-suc 2 w in
+    digit_zero ((2 ^ suc w - 1) - m) ∙ omega (arith, digit_zero m, pow_pos w)
+digit_not (suc w) m (suc k) h l =
+    let p = pow-suc 2 w in
+    let half : ((2 ^ suc w - 1) - m) / 2 ≡ (2 ^ w - 1) - m / 2 = omega (arith, pow_pos w) in
+    digit_suc ((2 ^ suc w - 1) - m) k ∙ ap (λ (x : ℕ). digit x k) half
+    ∙ digit_not w (m / 2) k (omega arith) (omega arith)
+    ∙ ap (λ (x : ℕ). 1 - x) (sym (digit_suc m k))
+
 -- `a & !b`
-pub digit_minus : (a b k : ℕ) → a < 2 ^ 64 → b < 2 ^ 64 → digit (bit_and a (2 ^ 64 - 1 - b)) k ≡ digit a k - digit b k
-unfolding digit
-digit_minus a b k ha hb =
-    bit_at_and a (2 ^ 64 - 1 - b) k
+pub digit_minus : (w a b k : ℕ) → a < 2 ^ w → b < 2 ^ w → digit (bit_and a ((2 ^ w - 1) - b)) k ≡ digit a k - digit b k
+digit_minus w a b k ha hb =
+    digit_and a ((2 ^ w - 1) - b) k
     ∙ ⊎_elim
-    (λ (l : k < 64). omega (arith, bit_at_not w64 b k hb l, bit_at-lt a k, bit_at-lt b k))
-    (λ (l : 64 ≤ k). omega (arith, bit_at_above a 64 k ha l))
-    (cases_lt k 64)
+    (λ (l : k < w). omega (arith, digit_not w b k hb l, digit_lt a k, digit_lt b k))
+    (λ (l : w ≤ k). omega (arith, digit_high w a k ha l))
+    (cases_lt k w)
+
+pub minus_of_64 : (a b k : ℕ) → a < 2 ^ 64 → b < 2 ^ 64 → digit (bit_and a (2 ^ 64 - 1 - b)) k ≡ digit a k - digit b k
+minus_of_64 = digit_minus 64
 
 -- `n | 1 << s`
 pub digit_with_here : (n s : ℕ) → s < 64 → digit (bit_or n (1 * 2 ^ s % 2 ^ 64)) s ≡ 1

@@ -121,7 +121,7 @@ impl Sub for Plane {
 
     ghost sub_gives = { λ p q r. (k : ℕ) → on r k ≡ on p k - on q k };
 
-    #[tactic(auto, using(crate::proofs::Digits::digit_minus))]
+    #[tactic(auto, using(crate::proofs::Digits::minus_of_64))]
     fn sub(self, other: Plane) -> Plane {
         Plane {
             word: self.word & !other.word,
