@@ -22,12 +22,21 @@ impl Digits {
     fn of(holds: Option<Piece>) -> Digits
         ensures { Spells result.gold result.one result.two result.four holds }
     {
-        let strength = holds.map_or(0, |piece| piece.kind.strength());
+        // Case by case, not by the strength's bits: reading a board then takes one jump for each letter.
+        let (four, two, one) = match holds.map(|piece| piece.kind) {
+            None => (false, false, false),
+            Some(Kind::Rabbit) => (false, false, true),
+            Some(Kind::Cat) => (false, true, false),
+            Some(Kind::Dog) => (false, true, true),
+            Some(Kind::Horse) => (true, false, false),
+            Some(Kind::Camel) => (true, false, true),
+            Some(Kind::Elephant) => (true, true, false),
+        };
         Digits {
             gold: holds.is_some_and(|piece| piece.side == Side::Gold),
-            one: strength & 1 != 0,
-            two: strength & 2 != 0,
-            four: strength & 4 != 0,
+            one,
+            two,
+            four,
         }
     }
 }
